@@ -1,0 +1,2 @@
+// The dense grid: a matrix over memory that its caller hands in.
+pub mod grid;

@@ -1,0 +1,3 @@
+// What a matrix is, what each call makes of one, and how its cells lie flat.
+pub mod laws;
+pub mod shape;
