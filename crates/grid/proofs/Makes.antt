@@ -18,9 +18,9 @@ use Rattle.std.proofs.shelf.Tests.{cases-lt, cases-eq}
 use Rattle.cells.specs.declared.refusal.Refusal.{Refusal}
 use Rattle.cells.specs.Refusals.{answered}
 use Rattle.matrix.specs.declared.shape.Order.{Order}
-use Rattle.matrix.specs.Matrix.{Matrix, empty, filled}
+use Rattle.matrix.specs.Matrix.{Matrix, empty, filled, over}
 use Rattle.matrix.specs.declared.shape.Shape.{Shape}
-use Rattle.matrix.specs.Shapes.{Form, form, place, laid, held, vacant}
+use Rattle.matrix.specs.Shapes.{Form, form, place, laid, held, vacant, flat}
 use Rattle.matrix.specs.Rules.{grid-limits, from-vec-answer, from-vec, new-answer, init}
 use Rattle.matrix.proofs.Whole.{same-inside, inside-below, inside-right}
 use Rattle.matrix.proofs.Held.{held-in}
@@ -110,3 +110,23 @@ made-new {T} o rows cols x xs ys e = go (new-answer (length xs) rows cols) refl
 
 pub new-order : (o : Order) (N rows cols : ℕ) (s : Shape) → form s ≡ new-form N rows cols o → s .order ≡ o
 new-order o N rows cols s e = ap (λ (f : Form). f .order) e ∙ vacant-order o (new-answer N rows cols) (eqb rows 0 || eqb cols 0) rows cols
+
+-- as many cells as were read in
+pub vec-count : {T : Type 0} (o : Order) (n cols : ℕ) (xs : List T) → from-vec o n cols xs .rows * from-vec o n cols xs .cols ≡ answered (from-vec-answer (length xs) n cols) n 0
+vec-count {T} o n cols xs = go (from-vec-answer (length xs) n cols) refl
+  where
+    size : Matrix T → ℕ
+    size m = m .rows * m .cols
+
+    go : (r : Result Unit Refusal) → r ≡ from-vec-answer (length xs) n cols → size (answered r (cond (eqb n 0) empty (laid (record { rows = n / cols; cols = cols; order = o }) xs)) empty) ≡ answered r n 0
+    go (Ok tt) a = by (eqb n 0) refl
+      where
+        by : (b : Bool) → b ≡ eqb n 0 → size (cond b empty (laid (record { rows = n / cols; cols = cols; order = o }) xs)) ≡ n
+        by true z = let e : n ≡ 0 = grind (arith, tells) in sym e
+        by false z =
+            let ne : n ≡ 0 → ⊥ = λ e. grind (arith, tells) in
+            omega (arith, div-add-mod' n cols, met (length xs) n cols ne a .whole)
+    go (Err d) a = refl
+
+pub shown-again : {T : Type 0} (o p : Order) (m n : Matrix T) (xs : List T) → o ≡ p → m ≡ n → xs ≡ over (flat o m) xs → xs ≡ over (flat p n) xs
+shown-again o p m n xs eo em e = e ∙ ap (λ q. over (flat q m) xs) eo ∙ ap (λ q. over (flat p q) xs) em
