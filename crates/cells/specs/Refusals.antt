@@ -71,3 +71,15 @@ Kept r old new = answered r old new ≡ old
 abbrev pub verdict : {A E : Type 0} → Result A E → Result Unit E
 verdict (Ok a) = Ok tt
 verdict (Err e) = Err e
+
+-- what stands after a call that gives what it made
+abbrev pub stands : {X E : Type 0} → Result X E → X → X
+stands (Ok new) old = new
+stands (Err e) old = old
+
+-- t is r with what was made turned as `Turn` says
+abbrev pub Back : {X E : Type 0} → (X → X → Type 0) → Result X E → Result X E → Type 0
+Back Turn (Ok new) (Ok turn) = Turn new turn
+Back Turn (Ok new) (Err e) = ⊥
+Back Turn (Err e) (Ok turn) = ⊥
+Back Turn (Err e) (Err d) = d ≡ e

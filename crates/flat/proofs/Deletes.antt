@@ -4,13 +4,13 @@ use mathlib.Core.Logic.{_⊎_, inl, inr, ⊎-elim}
 use mathlib.Core.List.{List}
 use Prim.Native.Nat.{ℕ, _+_, _-_, _*_, _<_, _≤_}
 use native.Mathlib.Omega.{arith}
-use lib.ListN.{length, set, length-set}
+use lib.ListN.{length}
 use Rattle.std.specs.Finite.{nth}
-use Rattle.std.specs.declared.option.Option.the-variants.{Some}
 use Rattle.std.proofs.shelf.Tests.{cases-lt, cases-eq}
 use Rattle.matrix.specs.Matrix.{Matrix, skipped, inside, left-across, remove-row, remove-col, row, col, over}
 use Rattle.matrix.specs.Shapes.{rowwise}
-use Rattle.matrix.proofs.Cells.{nth-set-same, nth-set-other, skipped-below, skipped-above, over-is}
+use Rattle.matrix.proofs.Cells.{skipped-below, skipped-above, over-is}
+use Rattle.matrix.proofs.Gather.{Gathered, gathered-all}
 use Rattle.matrix.proofs.Products.{line-more, line-ends, line-le, line-narrower}
 use Rattle.matrix.proofs.Whole.{inside-in, rowwise-is, whole-rowwise, whole-remove-row, whole-remove-col, across-stays}
 use Rattle.flat.specs.Moves.{Copied, Tight}
@@ -79,27 +79,6 @@ copied-outer xs mem zs outer n at ha hm p =
     (λ k h. ap (nth zs) (omega arith) ∙ p .moved k h ∙ sym (inside-in outer n at k (nth xs (at * n + k)) ha h))
     (λ k h. p .above k (omega arith))
 
--- o cells of the inner line lie in the memory
-pub record Gathered {T : Type 0} (xs mem zs : List T) (n at o : ℕ) : Type 0 where
-  pub len : length zs ≡ length mem
-  pub taken : (k : ℕ) → k < o → nth zs k ≡ nth xs (k * n + at)
-  pub rest : (k : ℕ) → o ≤ k → nth zs k ≡ nth mem k
-
-pub gathered-none : {T : Type 0} (xs mem : List T) (n at : ℕ) → Gathered xs mem mem n at 0
-gathered-none xs mem n at = record { len = refl; taken = λ k h. absurd (omega arith); rest = λ k h. refl }
-
-pub gathered-more : {T : Type 0} (xs mem zs : List T) (n at o : ℕ) (x : T) → o < length mem → nth xs (o * n + at) ≡ Some x → Gathered xs mem zs n at o → Gathered xs mem (set zs o x) n at (o + 1)
-gathered-more xs mem zs n at o x ho e p = record {
-  len = length-set zs o x ∙ p .len;
-  taken = λ k h. ⊎-elim
-      (λ (i : k ≡ o). ap (nth (set zs o x)) i ∙ nth-set-same zs o x (omega (arith, p .len)) ∙ sym e ∙ ap (λ j. nth xs (j * n + at)) (sym i))
-      (λ (i : k ≡ o → ⊥). nth-set-other zs o k x i ∙ p .taken k (omega arith))
-      (cases-eq k o);
-  rest = λ k h. nth-set-other zs o k x (omega arith) ∙ p .rest k (omega arith);
-}
-
-pub gathered-all : {T : Type 0} (xs mem zs : List T) (outer n at : ℕ) → at < n → outer ≤ length mem → Gathered xs mem zs n at outer → zs ≡ over (col at (rowwise outer n xs)) mem
-gathered-all xs mem zs outer n at ha hm p =
-    over-is outer (λ r. inside outer n r at (nth xs (r * n + at))) mem zs hm (p .len)
-    (λ k h. p .taken k h ∙ sym (inside-in outer n k at (nth xs (k * n + at)) h ha))
-    (λ k h. p .rest k h)
+-- cell by cell down an inner line
+pub gathered-inner : {T : Type 0} (xs mem zs : List T) (outer n at : ℕ) → at < n → outer ≤ length mem → Gathered xs mem zs (λ k. k * n + at) outer → zs ≡ over (col at (rowwise outer n xs)) mem
+gathered-inner xs mem zs outer n at ha hm p = gathered-all xs mem zs (λ k. k * n + at) outer (λ r. inside outer n r at (nth xs (r * n + at))) hm (λ k h. sym (inside-in outer n k at (nth xs (k * n + at)) h ha)) p

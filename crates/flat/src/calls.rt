@@ -1,12 +1,13 @@
 // The calls of a grid on memory and a shape: any memory, any shape, any number gets the fixed answer.
 ghost use mathlib.Core.Path.{_≡_};
 ghost use Prim.Native.Nat.{ℕ, _*_, _≤_};
-ghost use lib.ListN.{length};
-ghost use Rattle.cells.specs.Refusals.{answered, Kept, verdict};
+ghost use lib.ListN.{length, set};
+ghost use Rattle.std.specs.Finite.{nth};
+ghost use Rattle.cells.specs.Refusals.{answered, Kept, verdict, stands, Back};
 ghost use Rattle.matrix.specs.Matrix.{Matrix, put-cell, filled, insert-row, insert-col, remove-row, remove-col, flip-rows, flip-cols, rotate-half, row, col, over};
 ghost use Rattle.matrix.specs.Shapes.{form, held};
-ghost use Rattle.matrix.specs.Rules.{grid-limits, insert-answer, remove-answer, insert-row-answer, insert-col-answer, remove-row-answer, remove-col-answer, delete-row-answer, delete-col-answer, put-answer};
-ghost use Rattle.flat.specs.Reshapes.{reshaped, Back};
+ghost use Rattle.matrix.specs.Rules.{grid-limits, insert-row-answer, insert-col-answer, remove-row-answer, remove-col-answer, delete-row-answer, delete-col-answer, put-answer};
+ghost use Rattle.flat.specs.Turns.{Turned};
 use crate::lines::copy_line;
 use crate::lines::delete_line;
 use crate::lines::flip_lines;
@@ -14,9 +15,10 @@ use crate::lines::insert_line;
 use crate::lines::place_of;
 use crate::lines::turn_half;
 use crate::moves::fill_first;
-use crate::moves::read;
-use crate::moves::write;
 use cells::refusal::Refusal;
+use matrix::checks::insert_check;
+use matrix::checks::remove_check;
+use matrix::limits::Limits;
 use matrix::shape::Shape;
 
 // The most rows and the most columns of a grid.
@@ -25,48 +27,39 @@ const SIDE: usize = 256;
 // The most cells of a grid.
 const CELLS: usize = 65536;
 
-// What an insertion of n cells as row i answers over `room` cells of memory.
-fn insert_check(room: usize, shape: Shape, i: usize, n: usize) -> Result<(), Refusal>
-    ensures answer { λ r. ⌜ r ≡ insert-answer (grid-limits room) i n (shape .rows) (shape .cols) ⌝ }
+// The limits of a grid over n cells of memory.
+pub fn limits_over(n: usize) -> Limits
+    ensures answer { λ l. ⌜ l ≡ grid-limits n ⌝ }
 {
-    if n == 0 {
-        return Err(Refusal::Empty);
+    Limits {
+        side: SIDE,
+        most: n.min(CELLS),
     }
-    if shape.rows != 0 && n != shape.cols {
-        return Err(Refusal::Length);
-    }
-    if shape.rows < i {
-        return Err(Refusal::Place);
-    }
-    if SIDE < shape.rows + 1 || SIDE < n {
-        return Err(Refusal::Side);
-    }
-    if room.min(CELLS) < (shape.rows + 1) * n {
-        return Err(Refusal::Full);
-    }
-    Ok(())
-}
-
-// What taking out row i into n cells of memory answers.
-fn remove_check(shape: Shape, i: usize, n: usize) -> Result<(), Refusal>
-    ensures answer { λ r. ⌜ r ≡ remove-answer i n (shape .rows) (shape .cols) ⌝ }
-{
-    if shape.rows <= i {
-        return Err(Refusal::Place);
-    }
-    if n < shape.cols {
-        return Err(Refusal::Short);
-    }
-    Ok(())
 }
 
 // What a row call on the shape turned has answered, as the column call's answer.
 fn turned_back(r: Result<Shape, Refusal>) -> Result<Shape, Refusal>
-    ensures back { λ t. ⌜ Back r t ⌝ }
+    ensures back { λ t. ⌜ Back Turned r t ⌝ }
 {
     match r {
         Ok(new) => Ok(new.turned()),
         Err(e) => Err(e),
+    }
+}
+
+// The cell at flat place k, absent past the end.
+pub fn peek<T: Copy>(s: &[T], k: usize) -> Option<T>
+    ensures answer { λ o. ⌜ o ≡ nth (now (s .entry)) k ⌝ }
+{
+    if k < s.len() { Some(s[k]) } else { None }
+}
+
+// The cell at flat place k becomes x; nothing past the end.
+pub fn poke<T: Copy>(s: &mut [T], k: usize, x: T)
+    ensures effect { λ _. ⌜ now (s .exit) ≡ set (now (s .entry)) k x ⌝ }
+{
+    if k < s.len() {
+        s[k] = x;
     }
 }
 
@@ -75,7 +68,7 @@ pub fn get<T: Copy>(s: &[T], shape: Shape, r: usize, c: usize) -> Option<T>
 {
     let shape = shape.fitted(s.len());
     if r < shape.rows && c < shape.cols {
-        Some(read(s, place_of(shape, r, c)))
+        peek(s, place_of(shape, r, c))
     } else {
         None
     }
@@ -88,7 +81,7 @@ pub fn put<T: Copy>(s: &mut [T], shape: Shape, r: usize, c: usize, x: T) -> Resu
 {
     let shape = shape.fitted(s.len());
     if r < shape.rows && c < shape.cols {
-        write(s, place_of(shape, r, c), x);
+        poke(s, place_of(shape, r, c), x);
         Ok(())
     } else {
         Err(Refusal::Place)
@@ -110,12 +103,12 @@ pub fn insert_row<T: Copy>(
     line: &[T],
 ) -> Result<Shape, Refusal>
     ensures answer { λ r. ⌜ verdict r ≡ insert-row-answer (grid-limits (length (now (s .entry)))) i (now (line .entry)) (held (form shape) (now (s .entry))) ⌝ }
-    ensures effect { λ r. ⌜ held (reshaped r shape) (now (s .exit)) ≡ answered r (insert-row i (now (line .entry)) (held (form shape) (now (s .entry)))) (held (form shape) (now (s .entry))) ⌝ }
-    ensures order { λ r. ⌜ reshaped r shape .order ≡ shape .order ⌝ }
+    ensures effect { λ r. ⌜ held (form (stands r shape)) (now (s .exit)) ≡ answered r (insert-row i (now (line .entry)) (held (form shape) (now (s .entry)))) (held (form shape) (now (s .entry))) ⌝ }
+    ensures order { λ r. ⌜ stands r shape .order ≡ shape .order ⌝ }
     ensures kept { λ r. ⌜ Kept r (now (s .entry)) (now (s .exit)) ⌝ }
 {
     let shape = shape.fitted(s.len());
-    insert_check(s.len(), shape, i, line.len())?;
+    insert_check(limits_over(s.len()), i, line.len(), shape.rows, shape.cols)?;
     Ok(insert_line(s, shape, i, line))
 }
 
@@ -126,8 +119,8 @@ pub fn insert_col<T: Copy>(
     line: &[T],
 ) -> Result<Shape, Refusal>
     ensures answer { λ r. ⌜ verdict r ≡ insert-col-answer (grid-limits (length (now (s .entry)))) i (now (line .entry)) (held (form shape) (now (s .entry))) ⌝ }
-    ensures effect { λ r. ⌜ held (reshaped r shape) (now (s .exit)) ≡ answered r (insert-col i (now (line .entry)) (held (form shape) (now (s .entry)))) (held (form shape) (now (s .entry))) ⌝ }
-    ensures order { λ r. ⌜ reshaped r shape .order ≡ shape .order ⌝ }
+    ensures effect { λ r. ⌜ held (form (stands r shape)) (now (s .exit)) ≡ answered r (insert-col i (now (line .entry)) (held (form shape) (now (s .entry)))) (held (form shape) (now (s .entry))) ⌝ }
+    ensures order { λ r. ⌜ stands r shape .order ≡ shape .order ⌝ }
     ensures kept { λ r. ⌜ Kept r (now (s .entry)) (now (s .exit)) ⌝ }
 {
     turned_back(insert_row(s, shape.turned(), i, line))
@@ -141,13 +134,13 @@ pub fn remove_row<T: Copy>(
     memory: &mut [T],
 ) -> Result<Shape, Refusal>
     ensures answer { λ r. ⌜ verdict r ≡ remove-row-answer i (now (memory .entry)) (held (form shape) (now (s .entry))) ⌝ }
-    ensures effect { λ r. ⌜ held (reshaped r shape) (now (s .exit)) ≡ answered r (remove-row i (held (form shape) (now (s .entry)))) (held (form shape) (now (s .entry))) ⌝ }
+    ensures effect { λ r. ⌜ held (form (stands r shape)) (now (s .exit)) ≡ answered r (remove-row i (held (form shape) (now (s .entry)))) (held (form shape) (now (s .entry))) ⌝ }
     ensures line { λ r. ⌜ now (memory .exit) ≡ answered r (over (row i (held (form shape) (now (s .entry)))) (now (memory .entry))) (now (memory .entry)) ⌝ }
-    ensures order { λ r. ⌜ reshaped r shape .order ≡ shape .order ⌝ }
+    ensures order { λ r. ⌜ stands r shape .order ≡ shape .order ⌝ }
     ensures kept { λ r. ⌜ Kept r (now (s .entry)) (now (s .exit)) ⌝ }
 {
     let shape = shape.fitted(s.len());
-    remove_check(shape, i, memory.len())?;
+    remove_check(i, memory.len(), shape.rows, shape.cols)?;
     copy_line(s, shape, i, memory);
     Ok(delete_line(s, shape, i))
 }
@@ -159,9 +152,9 @@ pub fn remove_col<T: Copy>(
     memory: &mut [T],
 ) -> Result<Shape, Refusal>
     ensures answer { λ r. ⌜ verdict r ≡ remove-col-answer i (now (memory .entry)) (held (form shape) (now (s .entry))) ⌝ }
-    ensures effect { λ r. ⌜ held (reshaped r shape) (now (s .exit)) ≡ answered r (remove-col i (held (form shape) (now (s .entry)))) (held (form shape) (now (s .entry))) ⌝ }
+    ensures effect { λ r. ⌜ held (form (stands r shape)) (now (s .exit)) ≡ answered r (remove-col i (held (form shape) (now (s .entry)))) (held (form shape) (now (s .entry))) ⌝ }
     ensures line { λ r. ⌜ now (memory .exit) ≡ answered r (over (col i (held (form shape) (now (s .entry)))) (now (memory .entry))) (now (memory .entry)) ⌝ }
-    ensures order { λ r. ⌜ reshaped r shape .order ≡ shape .order ⌝ }
+    ensures order { λ r. ⌜ stands r shape .order ≡ shape .order ⌝ }
     ensures kept { λ r. ⌜ Kept r (now (s .entry)) (now (s .exit)) ⌝ }
 {
     turned_back(remove_row(s, shape.turned(), i, memory))
@@ -169,8 +162,8 @@ pub fn remove_col<T: Copy>(
 
 pub fn delete_row<T: Copy>(s: &mut [T], shape: Shape, i: usize) -> Result<Shape, Refusal>
     ensures answer { λ r. ⌜ verdict r ≡ delete-row-answer i (held (form shape) (now (s .entry))) ⌝ }
-    ensures effect { λ r. ⌜ held (reshaped r shape) (now (s .exit)) ≡ answered r (remove-row i (held (form shape) (now (s .entry)))) (held (form shape) (now (s .entry))) ⌝ }
-    ensures order { λ r. ⌜ reshaped r shape .order ≡ shape .order ⌝ }
+    ensures effect { λ r. ⌜ held (form (stands r shape)) (now (s .exit)) ≡ answered r (remove-row i (held (form shape) (now (s .entry)))) (held (form shape) (now (s .entry))) ⌝ }
+    ensures order { λ r. ⌜ stands r shape .order ≡ shape .order ⌝ }
     ensures kept { λ r. ⌜ Kept r (now (s .entry)) (now (s .exit)) ⌝ }
 {
     let shape = shape.fitted(s.len());
@@ -182,8 +175,8 @@ pub fn delete_row<T: Copy>(s: &mut [T], shape: Shape, i: usize) -> Result<Shape,
 
 pub fn delete_col<T: Copy>(s: &mut [T], shape: Shape, i: usize) -> Result<Shape, Refusal>
     ensures answer { λ r. ⌜ verdict r ≡ delete-col-answer i (held (form shape) (now (s .entry))) ⌝ }
-    ensures effect { λ r. ⌜ held (reshaped r shape) (now (s .exit)) ≡ answered r (remove-col i (held (form shape) (now (s .entry)))) (held (form shape) (now (s .entry))) ⌝ }
-    ensures order { λ r. ⌜ reshaped r shape .order ≡ shape .order ⌝ }
+    ensures effect { λ r. ⌜ held (form (stands r shape)) (now (s .exit)) ≡ answered r (remove-col i (held (form shape) (now (s .entry)))) (held (form shape) (now (s .entry))) ⌝ }
+    ensures order { λ r. ⌜ stands r shape .order ≡ shape .order ⌝ }
     ensures kept { λ r. ⌜ Kept r (now (s .entry)) (now (s .exit)) ⌝ }
 {
     turned_back(delete_row(s, shape.turned(), i))

@@ -1,24 +1,8 @@
 // Moves of a stretch of flat cells.
 ghost use mathlib.Core.Path.{_≡_};
 ghost use Prim.Native.Nat.{ℕ, _+_, _<_, _≤_};
-ghost use lib.ListN.{length, set};
-ghost use Rattle.std.specs.Finite.{nth};
-ghost use Rattle.std.specs.declared.option.Option.the-variants.{Some};
+ghost use lib.ListN.{length};
 ghost use Rattle.flat.specs.Moves.{Copied, Spread, Tight, Exchanged, Reversed, Filled};
-
-pub(crate) fn read<T: Copy>(s: &[T], k: usize) -> T
-    requires inside { ⌜ k < length (now s) ⌝ }
-    ensures answer { λ x. ⌜ nth (now (s .entry)) k ≡ Some x ⌝ }
-{
-    s[k]
-}
-
-pub(crate) fn write<T: Copy>(s: &mut [T], k: usize, x: T)
-    requires inside { ⌜ k < length (now s) ⌝ }
-    ensures effect { λ _. ⌜ now (s .exit) ≡ set (now (s .entry)) k x ⌝ }
-{
-    s[k] = x;
-}
 
 // Moves n cells within s; the two stretches may overlap.
 pub(crate) fn slide<T: Copy>(s: &mut [T], from: usize, to: usize, n: usize)

@@ -5,7 +5,8 @@ use denote.Ref.{now}
 use Rattle.matrix.specs.declared.shape.Order.{Order}
 use Rattle.matrix.specs.Matrix.{Matrix}
 use Rattle.matrix.specs.Shapes.{Form, form, held}
-use Rattle.matrix.specs.Rules.{Limits, grid-limits}
+use Rattle.matrix.specs.declared.limits.Limits.{Limits}
+use Rattle.matrix.specs.Rules.{grid-limits}
 use Rattle.grid.specs.declared.grid.Grid.{Grid}
 
 abbrev pub matrix : {T : Type 0} → Grid T → Matrix T

@@ -12,15 +12,17 @@ use Rattle.std.specs.declared.option.Option.{Option}
 use Rattle.std.specs.declared.option.Option.the-variants.{Some, None}
 use Rattle.std.proofs.shelf.Maps.{nth-getD}
 use Rattle.std.proofs.shelf.Ways.{tells}
-use Rattle.std.proofs.shelf.Tests.{cases-lt, cases-eq, cases-order}
+use Rattle.std.proofs.shelf.Tests.{cases-lt, cases-eq}
 use Rattle.matrix.specs.declared.shape.Order.{Order}
 use Rattle.matrix.specs.declared.shape.Order.the-variants.{RowMajor, ColumnMajor}
 use Rattle.matrix.specs.declared.shape.Shape.{Shape}
 use Rattle.matrix.specs.Matrix.{Matrix, Shaped, inside, empty, put-cell, turned}
 use Rattle.matrix.specs.Shapes.{Form, form, place, laid, other, turned-form, vacant, fitted, held}
+use Rattle.matrix.specs.declared.limits.Limits.{Limits}
+use Rattle.matrix.specs.Rules.{Within, grid-limits}
 use Rattle.matrix.specs.Laws.{Turns}
 use Rattle.matrix.proofs.Cells.{present, nth-set-same, nth-set-other}
-use Rattle.matrix.proofs.Products.{line-le, line-ends, sides-within}
+use Rattle.matrix.proofs.Products.{line-ends, line-apart, sides-within}
 use Rattle.matrix.proofs.Whole.{same-matrix, inside-in, inside-below, inside-right}
 
 pub inside-turned : {T : Type 0} (R C r c : ℕ) (x : Option T) → inside R C r c x ≡ inside C R c r x
@@ -115,16 +117,52 @@ held-shaped {T} s xs = ⊎-elim
     (λ (h : s .rows * s .cols ≤ length xs). subst (λ (f : Form). Shaped (laid f xs)) (sym (fitted-in (length xs) (form s) h)) (laid-shaped (form s) xs (s .«no_rows») (s .«no_cols») h))
     (cases-lt (length xs) (s .rows * s .cols))
 
+pub fitted-tall : (n : ℕ) (s : Shape) → fitted n (form s) .rows ≤ 256
+fitted-tall n s = ⊎-elim
+    (λ (h : n < s .rows * s .cols). omega (arith, ap (λ (f : Form). f .rows) (fitted-out n (form s) h)))
+    (λ (h : s .rows * s .cols ≤ n). omega (arith, ap (λ (f : Form). f .rows) (fitted-in n (form s) h), s .tall))
+    (cases-lt n (s .rows * s .cols))
+
+pub fitted-wide : (n : ℕ) (s : Shape) → fitted n (form s) .cols ≤ 256
+fitted-wide n s = ⊎-elim
+    (λ (h : n < s .rows * s .cols). omega (arith, ap (λ (f : Form). f .cols) (fitted-out n (form s) h)))
+    (λ (h : s .rows * s .cols ≤ n). omega (arith, ap (λ (f : Form). f .cols) (fitted-in n (form s) h), s .wide))
+    (cases-lt n (s .rows * s .cols))
+
+pub fitted-room : (n : ℕ) (f : Form) → fitted n f .rows * fitted n f .cols ≤ n
+fitted-room n f = ⊎-elim
+    (λ (h : n < f .rows * f .cols). subst (λ (g : Form). g .rows * g .cols ≤ n) (sym (fitted-out n f h)) (omega arith))
+    (λ (h : f .rows * f .cols ≤ n). subst (λ (g : Form). g .rows * g .cols ≤ n) (sym (fitted-in n f h)) h)
+    (cases-lt n (f .rows * f .cols))
+
+-- memory under a shape keeps to the limits of a grid
+pub held-within : {T : Type 0} (s : Shape) (xs : List T) → Within (grid-limits (length xs)) (held (form s) xs)
+held-within s xs =
+    let tall = fitted-tall (length xs) s in
+    let wide = fitted-wide (length xs) s in
+    record {
+      shaped = held-shaped s xs;
+      side = omega arith;
+      most = omega arith;
+      tall = tall;
+      wide = wide;
+      room = omega (arith, fitted-room (length xs) (form s), sides-within _ _ tall wide);
+    }
+
+pub within-turned : {T : Type 0} {l : Limits} {m : Matrix T} → Within l m → Within l (turned m)
+within-turned {T} {l} {m} w = record {
+  shaped = shaped-turned (w .shaped);
+  side = w .side;
+  most = w .most;
+  tall = w .wide;
+  wide = w .tall;
+  room = omega (arith, w .room, mul-comm (m .rows) (m .cols));
+}
+
 -- two places inside lie apart
-place-apart : (o : Order) (R C a b r c : ℕ) → a < R → b < C → r < R → c < C → (a ≡ r → b ≡ c → ⊥) → place o R C a b ≡ place o R C r c → ⊥
-place-apart RowMajor R C a b r c ha hb hr hc ne e = ⊎-elim
-    (λ (q : a ≡ r). ne q (omega (arith, ap (λ j. j * C) q)))
-    (⊎-elim (λ (l : a < r). omega (arith, line-ends a r C l)) (λ (l : r < a). omega (arith, line-ends r a C l)))
-    (cases-order a r)
-place-apart ColumnMajor R C a b r c ha hb hr hc ne e = ⊎-elim
-    (λ (q : b ≡ c). ne (omega (arith, ap (λ j. j * R) q)) q)
-    (⊎-elim (λ (l : b < c). omega (arith, line-ends b c R l)) (λ (l : c < b). omega (arith, line-ends c b R l)))
-    (cases-order b c)
+place-apart : (o : Order) (R C a b r c : ℕ) → a < R → b < C → r < R → c < C → place o R C a b ≡ place o R C r c → (a ≡ r) × (b ≡ c)
+place-apart RowMajor R C a b r c ha hb hr hc e = line-apart C a b r c hb hc e
+place-apart ColumnMajor R C a b r c ha hb hr hc e = let p = line-apart R b a c r ha hr e in (p .1, p .0)
 
 put-here : {T : Type 0} (r c a b : ℕ) (x : T) (m : Matrix T) → a ≡ r → b ≡ c → put-cell r c x m .cell a b ≡ Some x
 put-here r c a b x m p q = grind (arith, tells)
@@ -135,28 +173,32 @@ put-apart r c a b x m ne = ⊎-elim
     (λ (p : a ≡ r → ⊥). grind (arith, tells))
     (cases-eq a r)
 
--- a cell written at its place
-pub put-laid : {T : Type 0} (f : Form) (xs : List T) (r c k : ℕ) (x : T) → r < f .rows → c < f .cols → k ≡ place (f .order) (f .rows) (f .cols) r c → k < length xs → laid f (set xs k x) ≡ put-cell r c x (laid f xs)
-put-laid {T} f xs r c k x hr hc e l = same-matrix (laid f (set xs k x)) (put-cell r c x (laid f xs)) refl refl
+-- R × C cells, each at a place of the list
+abbrev pub placed : {T : Type 0} → ℕ → ℕ → (ℕ → ℕ → ℕ) → List T → Matrix T
+placed R C at xs = record { rows = R; cols = C; cell = λ r c. inside R C r c (nth xs (at r c)) }
+
+-- a cell written at its place, where no two cells share one
+pub put-placed : {T : Type 0} (R C : ℕ) (at : ℕ → ℕ → ℕ) (xs : List T) (r c k : ℕ) (x : T) → r < R → c < C → ((a b : ℕ) → a < R → b < C → at a b ≡ at r c → (a ≡ r) × (b ≡ c)) → k ≡ at r c → k < length xs → placed R C at (set xs k x) ≡ put-cell r c x (placed R C at xs)
+put-placed {T} R C at xs r c k x hr hc apart e l = same-matrix (placed R C at (set xs k x)) (put-cell r c x (placed R C at xs)) refl refl
     (λ a b. ⊎-elim
     (λ (p : a ≡ r). ⊎-elim (λ (q : b ≡ c). here a b p q) (λ (q : b ≡ c → ⊥). there a b (λ _. q)) (cases-eq b c))
     (λ (p : a ≡ r → ⊥). there a b (λ z _. p z))
     (cases-eq a r))
   where
-    at : ℕ → ℕ → ℕ
-    at a b = place (f .order) (f .rows) (f .cols) a b
-
-    here : (a b : ℕ) → a ≡ r → b ≡ c → laid f (set xs k x) .cell a b ≡ put-cell r c x (laid f xs) .cell a b
+    here : (a b : ℕ) → a ≡ r → b ≡ c → placed R C at (set xs k x) .cell a b ≡ put-cell r c x (placed R C at xs) .cell a b
     here a b p q =
-        inside-in (f .rows) (f .cols) a b (nth (set xs k x) (at a b)) (omega arith) (omega arith)
+        inside-in R C a b (nth (set xs k x) (at a b)) (omega arith) (omega arith)
         ∙ ap (λ j. nth (set xs k x) j) (ap (λ j. at j b) p ∙ ap (at r) q ∙ sym e)
-        ∙ nth-set-same xs k x l ∙ sym (put-here r c a b x (laid f xs) p q)
+        ∙ nth-set-same xs k x l ∙ sym (put-here r c a b x (placed R C at xs) p q)
 
-    there : (a b : ℕ) → (a ≡ r → b ≡ c → ⊥) → laid f (set xs k x) .cell a b ≡ put-cell r c x (laid f xs) .cell a b
+    there : (a b : ℕ) → (a ≡ r → b ≡ c → ⊥) → placed R C at (set xs k x) .cell a b ≡ put-cell r c x (placed R C at xs) .cell a b
     there a b ne = ⊎-elim
-        (λ (ha : a < f .rows). ⊎-elim
-        (λ (hb : b < f .cols). ap (inside (f .rows) (f .cols) a b) (nth-set-other xs k (at a b) x (λ z. place-apart (f .order) (f .rows) (f .cols) a b r c ha hb hr hc ne (z ∙ e))) ∙ sym (put-apart r c a b x (laid f xs) ne))
-        (λ (hb : f .cols ≤ b). inside-right (f .rows) (f .cols) a b (nth (set xs k x) (at a b)) hb ∙ sym (put-apart r c a b x (laid f xs) ne ∙ inside-right (f .rows) (f .cols) a b (nth xs (at a b)) hb))
-        (cases-lt b (f .cols)))
-        (λ (ha : f .rows ≤ a). inside-below (f .rows) (f .cols) a b (nth (set xs k x) (at a b)) ha ∙ sym (put-apart r c a b x (laid f xs) ne ∙ inside-below (f .rows) (f .cols) a b (nth xs (at a b)) ha))
-        (cases-lt a (f .rows))
+        (λ (ha : a < R). ⊎-elim
+        (λ (hb : b < C). ap (inside R C a b) (nth-set-other xs k (at a b) x (λ z. let q = apart a b ha hb (z ∙ e) in ne (q .0) (q .1))) ∙ sym (put-apart r c a b x (placed R C at xs) ne))
+        (λ (hb : C ≤ b). inside-right R C a b (nth (set xs k x) (at a b)) hb ∙ sym (put-apart r c a b x (placed R C at xs) ne ∙ inside-right R C a b (nth xs (at a b)) hb))
+        (cases-lt b C))
+        (λ (ha : R ≤ a). inside-below R C a b (nth (set xs k x) (at a b)) ha ∙ sym (put-apart r c a b x (placed R C at xs) ne ∙ inside-below R C a b (nth xs (at a b)) ha))
+        (cases-lt a R)
+
+pub put-laid : {T : Type 0} (f : Form) (xs : List T) (r c k : ℕ) (x : T) → r < f .rows → c < f .cols → k ≡ place (f .order) (f .rows) (f .cols) r c → k < length xs → laid f (set xs k x) ≡ put-cell r c x (laid f xs)
+put-laid f xs r c k x hr hc = put-placed (f .rows) (f .cols) (place (f .order) (f .rows) (f .cols)) xs r c k x hr hc (λ a b ha hb e. place-apart (f .order) (f .rows) (f .cols) a b r c ha hb hr hc e)

@@ -4,3 +4,5 @@ pub mod Whole
 pub mod Undo
 pub mod Held
 pub mod Flats
+pub mod Gather
+pub mod Cross

@@ -1,14 +1,15 @@
 -- What each call answers: the first refusal that holds in the order of its number, or yes.
 use mathlib.Core.Bool.{cond, not, _&&_, _||_}
 use mathlib.Core.List.{List}
-use Prim.Native.Nat.{ℕ, _+_, _*_, _/_, _%_, min}
+use Prim.Native.Nat.{ℕ, _+_, _*_, _/_, _%_, _≤_, min}
 use lib.Dec.{ltb, leb, eqb}
 use lib.ListN.{length}
 use Rattle.std.specs.declared.result.Result.{Result}
 use Rattle.cells.specs.declared.refusal.Refusal.{Refusal}
 use Rattle.cells.specs.Refusals.{refused, accepted, answered}
 use Rattle.matrix.specs.declared.shape.Order.{Order}
-use Rattle.matrix.specs.Matrix.{Matrix, empty, filled, turned}
+use Rattle.matrix.specs.declared.limits.Limits.{Limits}
+use Rattle.matrix.specs.Matrix.{Matrix, Shaped, empty, filled, turned}
 use Rattle.matrix.specs.Shapes.{laid}
 
 -- No board has a side or a count of cells above these.
@@ -18,10 +19,14 @@ side-limit = 256
 abbrev pub cell-limit : ℕ
 cell-limit = 65536
 
--- the most rows and the most columns of a board, and its most cells
-pub record Limits : Type 0 where
-  pub side : ℕ
-  pub most : ℕ
+-- What every board owes: limits within those, and a matrix within its limits.
+pub record Within {T : Type 0} (l : Limits) (m : Matrix T) : Type 0 where
+  pub shaped : Shaped m
+  pub side : l .side ≤ side-limit
+  pub most : l .most ≤ cell-limit
+  pub tall : m .rows ≤ l .side
+  pub wide : m .cols ≤ l .side
+  pub room : m .rows * m .cols ≤ l .most
 
 -- the limits of a grid over n cells of memory
 abbrev pub grid-limits : ℕ → Limits

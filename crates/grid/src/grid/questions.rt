@@ -10,6 +10,7 @@ ghost use Rattle.matrix.specs.Shapes.{flat};
 ghost use Rattle.grid.specs.Grids.{matrix, limits, order};
 use crate::grid::Grid;
 use flat::calls;
+use matrix::limits::Limits;
 use matrix::shape::Order;
 
 impl<'a, T: Copy> Grid<'a, T> {
@@ -43,6 +44,13 @@ impl<'a, T: Copy> Grid<'a, T> {
     {
         let shape = self.shape.fitted(self.cells.len());
         shape.rows == 0 && shape.cols == 0
+    }
+
+    // The most rows and columns, and the most cells.
+    pub fn limits(&self) -> Limits
+        ensures answer { λ r. ⌜ r ≡ limits (now (self .entry)) ⌝ }
+    {
+        calls::limits_over(self.cells.len())
     }
 
     // The cell at (r, c), absent outside the matrix.

@@ -1,6 +1,10 @@
 use Rattle.matrix.specs.Matrix.{remove-row}
 use Rattle.matrix.specs.Rules.{delete-row-answer}
-use Rattle.flat.proofs.Helds.{crossed-answer, crossed-effect, crossed-order, crossed-kept}
+use Rattle.matrix.specs.Shapes.{form, held, other}
+use Rattle.matrix.proofs.Cross.{crossed-answer, crossed-effect, crossed-stays, crossed-kept}
+use Rattle.matrix.proofs.Held.{order-back}
+use Rattle.flat.specs.Turns.{Turned}
+use Rattle.flat.proofs.Helds.{turned-held, turned-order}
 use Rattle.flat.proofs.calls.delete_col.Needs as need
 
 pub returns : need.returns
@@ -15,8 +19,8 @@ returns g c =
     let back = c .turned-back .ensures .back in
     let done = c .delete-row .ensures in
     record {
-      answer = crossed-answer shape turn xs ys et (delete-row-answer (c .args .i)) r t back (done .answer);
-      effect = crossed-effect shape turn xs ys et (remove-row (c .args .i)) r t back (done .effect);
-      order = crossed-order shape turn xs ys et r t back (done .order);
-      kept = crossed-kept shape turn xs ys et r t back (done .kept);
+      answer = crossed-answer (λ s zs. held (form s) zs) Turned turned-held shape turn xs ys et (delete-row-answer (c .args .i)) r t back (done .answer);
+      effect = crossed-effect (λ s zs. held (form s) zs) Turned turned-held shape turn xs ys et (remove-row (c .args .i)) r t back (done .effect);
+      order = crossed-stays (λ s zs. held (form s) zs) Turned turned-held shape turn xs ys et (λ s. s .order) other turned-order order-back r t back (done .order);
+      kept = crossed-kept (λ s zs. held (form s) zs) Turned turned-held shape turn xs ys et r t back (done .kept);
     }

@@ -13,8 +13,8 @@ returns-then-c-shape g c =
     let f = form (c .args .shape) in
     let t = form (c .fitted-shape .result) in
     let xs = c .args .s .now in
-    let ys = c .write .last .s in
-    let written = c .write .ensures .effect in
+    let ys = c .poke .last .s in
+    let written = c .poke .ensures .effect in
     record {
       answer = search needs;
       effect = stays (put-cell (c .args .r) (c .args .c) (c .args .x)) f t xs ys (c .fitted-shape .ensures .answer) (ap length written ∙ length-set xs _ (c .args .x))

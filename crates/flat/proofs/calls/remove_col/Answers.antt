@@ -1,6 +1,10 @@
 use Rattle.matrix.specs.Matrix.{remove-row}
 use Rattle.matrix.specs.Rules.{remove-row-answer}
-use Rattle.flat.proofs.Helds.{crossed-answer, crossed-effect, crossed-line, crossed-order, crossed-kept}
+use Rattle.matrix.specs.Shapes.{form, held, other}
+use Rattle.matrix.proofs.Cross.{crossed-answer, crossed-effect, crossed-line, crossed-stays, crossed-kept}
+use Rattle.matrix.proofs.Held.{order-back}
+use Rattle.flat.specs.Turns.{Turned}
+use Rattle.flat.proofs.Helds.{turned-held, turned-order}
 use Rattle.flat.proofs.calls.remove_col.Needs as need
 
 pub returns : need.returns
@@ -15,9 +19,9 @@ returns g c =
     let back = c .turned-back .ensures .back in
     let done = c .remove-row .ensures in
     record {
-      answer = crossed-answer shape turn xs ys et (remove-row-answer (c .args .i) (c .args .memory .now)) r t back (done .answer);
-      effect = crossed-effect shape turn xs ys et (remove-row (c .args .i)) r t back (done .effect);
-      line = crossed-line shape turn xs ys et (c .args .i) (c .args .memory .now) (c .remove-row .last .memory) r t back (done .line);
-      order = crossed-order shape turn xs ys et r t back (done .order);
-      kept = crossed-kept shape turn xs ys et r t back (done .kept);
+      answer = crossed-answer (λ s zs. held (form s) zs) Turned turned-held shape turn xs ys et (remove-row-answer (c .args .i) (c .args .memory .now)) r t back (done .answer);
+      effect = crossed-effect (λ s zs. held (form s) zs) Turned turned-held shape turn xs ys et (remove-row (c .args .i)) r t back (done .effect);
+      line = crossed-line (λ s zs. held (form s) zs) Turned turned-held shape turn xs ys et (c .args .i) (c .args .memory .now) (c .remove-row .last .memory) r t back (done .line);
+      order = crossed-stays (λ s zs. held (form s) zs) Turned turned-held shape turn xs ys et (λ s. s .order) other turned-order order-back r t back (done .order);
+      kept = crossed-kept (λ s zs. held (form s) zs) Turned turned-held shape turn xs ys et r t back (done .kept);
     }

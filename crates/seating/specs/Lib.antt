@@ -1,0 +1,3 @@
+pub mod Benches
+pub mod Seats
+pub mod Lines
