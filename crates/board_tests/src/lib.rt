@@ -1,4 +1,6 @@
 // The same cases on every board.
+#![tactic(auto)]
+
 #[cfg(test)]
 mod limits;
 #[cfg(test)]

@@ -1,4 +1,6 @@
 // Worked cases of the grid, and the examples of the original's documentation.
+#![tactic(auto)]
+
 #[cfg(test)]
 mod cases;
 #[cfg(test)]

@@ -6,7 +6,7 @@ use crate::keep::Keep;
 
 // Pushes every cell of the line, from first to last. Where there is room for all of them, all of them go on.
 pub fn push_line<K: Keep>(keep: &mut K, line: &[K::Cell])
-    ensures effect { ordered keep.old → length (store keep.old).cells + length line.now ≤ (store keep.old).most → ordered keep.new × (store keep.new ≡ holding ((store keep.old).cells ++ line.now) (store keep.old)) }
+    ensures effect { K.ordered keep.old → length (K.store keep.old).cells + length line.now ≤ (K.store keep.old).most → K.ordered keep.new × (K.store keep.new ≡ holding ((K.store keep.old).cells ++ line.now) (K.store keep.old)) }
 {
     for x in line {
         let _ = keep.push(*x);
@@ -15,7 +15,7 @@ pub fn push_line<K: Keep>(keep: &mut K, line: &[K::Cell])
 
 // Takes the newest cells off into memory, the newest of all last.
 pub fn pull_line<K: Keep>(keep: &mut K, memory: &mut [K::Cell])
-    ensures effect { ordered keep.old → (xs ys : List K.Cell) → (store keep.old).cells ≡ xs ++ ys → length ys ≡ length memory.old → ordered keep.new × (store keep.new ≡ holding xs (store keep.old)) × (memory.new ≡ ys) }
+    ensures effect { K.ordered keep.old → (xs ys : List K.Cell) → (K.store keep.old).cells ≡ xs ++ ys → length ys ≡ length memory.old → K.ordered keep.new × (K.store keep.new ≡ holding xs (K.store keep.old)) × (memory.new ≡ ys) }
 {
     let mut n = memory.len();
     while n > 0 {

@@ -21,7 +21,7 @@ pub trait Written: Kind + Clone {
 
     // Writes the word that spells this cell.
     fn show<W: fmt::Write>(&self, f: &mut fmt::Formatter<W>) -> fmt::Result
-        ensures text { WritesOnOk write_str_gives f.old result (spelling self.now) f.new };
+        ensures text { WritesOnOk W.write_str_gives f.old result (spelling self.now) f.new };
 }
 
 // A cell as a list spells it.

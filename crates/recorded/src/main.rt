@@ -1,4 +1,6 @@
 // Reads calls of the original with its answers from standard input, makes them here, and prints where the two differ.
+#![tactic(auto)]
+
 use crate::entry::Entry;
 use std::alloc::Global;
 use std::io;

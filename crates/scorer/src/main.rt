@@ -1,4 +1,6 @@
 // Reads a scorer's list and prints the answer to each of its lines.
+#![tactic(auto)]
+
 use anyhow::anyhow;
 use std::alloc::Global;
 use std::io::Read;

@@ -1,4 +1,6 @@
 // The sheet that steps back.
+#![tactic(auto)]
+
 mod axis;
 pub mod edit;
 mod emptied;

@@ -1,4 +1,6 @@
 // Sheets on every board and every keep.
+#![tactic(auto)]
+
 #[cfg(test)]
 mod mirrors;
 #[cfg(test)]

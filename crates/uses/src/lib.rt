@@ -1,4 +1,6 @@
 // What is written once over any board.
+#![tactic(auto)]
+
 pub mod lists;
 pub mod turns;
 pub mod undo;

@@ -12,7 +12,7 @@ returns g c =
     record {
       form = ap (λ k. record { rows = s.rows - 1; cols = k; order = s.order }) left;
       effect = ap (λ k. laid (record { rows = s.rows - 1; cols = k; order = s.order }) c.match-shape.s) left ∙ elim c.match-shape.branch [
-        | in-RowMajor w ↦ ap (laid (deleted_form (form s))) w.s_is ∙ in_row_major (remove_row c.args.i) (form s) (deleted_form (form s)) c.args.s.now w.delete_outer.new.s w.in-RowMajor.is refl w.delete_outer.ensures.effect
-        | in-ColumnMajor w ↦ ap (laid (deleted_form (form s))) w.s_is ∙ in_column_major (remove_row c.args.i) (form s) (deleted_form (form s)) c.args.s.now w.delete_inner.new.s w.in-ColumnMajor.is refl w.delete_inner.ensures.effect
+        | in-RowMajor w ↦ ap (laid (deleted_form (form s))) w.s-is ∙ in_row_major (remove_row c.args.i) (form s) (deleted_form (form s)) c.args.s.now w.delete_outer.new.s w.in-RowMajor.is refl w.delete_outer.ensures.effect
+        | in-ColumnMajor w ↦ ap (laid (deleted_form (form s))) w.s-is ∙ in_column_major (remove_row c.args.i) (form s) (deleted_form (form s)) c.args.s.now w.delete_inner.new.s w.in-ColumnMajor.is refl w.delete_inner.ensures.effect
       ];
     }

@@ -11,7 +11,7 @@ returns g c =
     record {
       form = refl;
       effect = elim c.match-shape.branch [
-        | in-RowMajor w ↦ ap (laid (inserted_form (length line) f)) w.s_is ∙ inserted_row_major f c.args.i c.args.s.now w.insert_outer.new.s line c.requires.fits w.in-RowMajor.is w.insert_outer.ensures.effect
-        | in-ColumnMajor w ↦ ap (laid (inserted_form (length line) f)) w.s_is ∙ inserted_column_major f c.args.i c.args.s.now w.insert_inner.new.s line c.requires.fits w.in-ColumnMajor.is w.insert_inner.ensures.effect
+        | in-RowMajor w ↦ ap (laid (inserted_form (length line) f)) w.s-is ∙ inserted_row_major f c.args.i c.args.s.now w.insert_outer.new.s line c.requires.fits w.in-RowMajor.is w.insert_outer.ensures.effect
+        | in-ColumnMajor w ↦ ap (laid (inserted_form (length line) f)) w.s-is ∙ inserted_column_major f c.args.i c.args.s.now w.insert_inner.new.s line c.requires.fits w.in-ColumnMajor.is w.insert_inner.ensures.effect
       ];
     }

@@ -8,14 +8,14 @@ use Rattle.flat.proofs.passes.copy_inner.Goals as goal
 pub loop-o-init : goal.loop-o-init
 loop-o-init g c = gathered_none _ _ _
 
-pub overflow-mul-memory : goal.overflow-mul-memory
-overflow-mul-memory g c = omega (arith, line_ends c.loop-o.o c.args.outer c.args.inner (omega arith))
+pub overflow_mul-memory : goal.overflow_mul-memory
+overflow_mul-memory g c = omega (arith, line_ends c.loop-o.o c.args.outer c.args.inner (omega arith))
 
-pub overflow-add-memory : goal.overflow-add-memory
-overflow-add-memory g c = omega (arith, line_ends c.loop-o.o c.args.outer c.args.inner (omega arith))
+pub overflow_add-memory : goal.overflow_add-memory
+overflow_add-memory g c = omega (arith, line_ends c.loop-o.o c.args.outer c.args.inner (omega arith))
 
-pub offset-bounds-s-o : goal.offset-bounds-s-o
-offset-bounds-s-o g c =
+pub offset_bounds-s-o : goal.offset_bounds-s-o
+offset_bounds-s-o g c =
     let h : c.loop-o.o * c.args.inner + c.args.at < length c.args.s.now = omega (arith, line_ends c.loop-o.o c.args.outer c.args.inner (omega arith)) in
     search rules
 

@@ -3,8 +3,8 @@ use Rattle.matrix.proofs.Products.{line_ends}
 use Rattle.flat.proofs.Deletes.{copied_outer}
 use Rattle.flat.proofs.passes.copy_outer.Goals as goal
 
-pub overflow-mul-at : goal.overflow-mul-at
-overflow-mul-at g c = omega (arith, line_ends c.args.at c.args.outer c.args.inner (omega arith))
+pub overflow_mul-at : goal.overflow_mul-at
+overflow_mul-at g c = omega (arith, line_ends c.args.at c.args.outer c.args.inner (omega arith))
 
 pub copy-requires : goal.copy-requires
 copy-requires g c = record {

@@ -6,11 +6,11 @@ use Rattle.flat.proofs.passes.delete_inner.Goals as goal
 pub loop-o-init : goal.loop-o-init
 loop-o-init g c = closed_none _ _ _
 
-pub overflow-mul-o : goal.overflow-mul-o
-overflow-mul-o g c = omega (arith, line_ends c.loop-o.o c.args.outer c.args.inner (omega arith))
+pub overflow_mul-o : goal.overflow_mul-o
+overflow_mul-o g c = omega (arith, line_ends c.loop-o.o c.args.outer c.args.inner (omega arith))
 
-pub overflow-mul-o-in-loop-o : goal.overflow-mul-o-in-loop-o
-overflow-mul-o-in-loop-o g c = omega (arith, line_ends c.loop-o.o c.args.outer c.args.inner (omega arith), line_narrower c.loop-o.o c.args.inner (omega arith))
+pub overflow_mul-o-in-loop-o : goal.overflow_mul-o-in-loop-o
+overflow_mul-o-in-loop-o g c = omega (arith, line_ends c.loop-o.o c.args.outer c.args.inner (omega arith), line_narrower c.loop-o.o c.args.inner (omega arith))
 
 pub tighten-requires : goal.tighten-requires
 tighten-requires g c = record {

@@ -3,17 +3,17 @@ use Rattle.matrix.proofs.Products.{line_ends}
 use Rattle.flat.proofs.Deletes.{removed_outer}
 use Rattle.flat.proofs.passes.delete_outer.Goals as goal
 
-pub overflow-mul-from : goal.overflow-mul-from
-overflow-mul-from g c = omega (arith, line_ends c.args.at c.args.outer c.args.inner (omega arith))
+pub overflow_mul-from : goal.overflow_mul-from
+overflow_mul-from g c = omega (arith, line_ends c.args.at c.args.outer c.args.inner (omega arith))
 
-pub overflow-add-from : goal.overflow-add-from
-overflow-add-from g c = omega (arith, line_ends c.args.at c.args.outer c.args.inner (omega arith))
+pub overflow_add-from : goal.overflow_add-from
+overflow_add-from g c = omega (arith, line_ends c.args.at c.args.outer c.args.inner (omega arith))
 
-pub overflow-add-from-2 : goal.overflow-add-from-2
-overflow-add-from-2 g c = omega (arith, line_ends c.args.at c.args.outer c.args.inner (omega arith))
+pub overflow_add-from-2 : goal.overflow_add-from-2
+overflow_add-from-2 g c = omega (arith, line_ends c.args.at c.args.outer c.args.inner (omega arith))
 
-pub overflow-sub-outer : goal.overflow-sub-outer
-overflow-sub-outer g c = omega (arith, line_ends c.args.at c.args.outer c.args.inner (omega arith))
+pub overflow_sub-outer : goal.overflow_sub-outer
+overflow_sub-outer g c = omega (arith, line_ends c.args.at c.args.outer c.args.inner (omega arith))
 
 pub slide-requires : goal.slide-requires
 slide-requires g c = record {

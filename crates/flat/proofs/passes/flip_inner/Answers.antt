@@ -6,8 +6,8 @@ use Rattle.flat.proofs.passes.flip_inner.Goals as goal
 pub loop-o-init : goal.loop-o-init
 loop-o-init g c = mirrored_none _ _
 
-pub overflow-mul-o : goal.overflow-mul-o
-overflow-mul-o g c = omega (arith, line_ends c.loop-o.o c.args.outer c.args.inner (omega arith))
+pub overflow_mul-o : goal.overflow_mul-o
+overflow_mul-o g c = omega (arith, line_ends c.loop-o.o c.args.outer c.args.inner (omega arith))
 
 pub reverse-requires : goal.reverse-requires
 reverse-requires g c = omega (arith, line_ends c.loop-o.o c.args.outer c.args.inner (omega arith))

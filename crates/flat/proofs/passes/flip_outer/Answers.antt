@@ -6,11 +6,11 @@ use Rattle.flat.proofs.passes.flip_outer.Goals as goal
 pub loop-o-init : goal.loop-o-init
 loop-o-init g c = flipped_none _ _ _
 
-pub overflow-mul-o : goal.overflow-mul-o
-overflow-mul-o g c = omega (arith, line_ends c.loop-o.o c.args.outer c.args.inner (omega arith))
+pub overflow_mul-o : goal.overflow_mul-o
+overflow_mul-o g c = omega (arith, line_ends c.loop-o.o c.args.outer c.args.inner (omega arith))
 
-pub overflow-mul-outer : goal.overflow-mul-outer
-overflow-mul-outer g c = omega (arith, line_ends (c.args.outer - 1 - c.loop-o.o) c.args.outer c.args.inner (omega arith))
+pub overflow_mul-outer : goal.overflow_mul-outer
+overflow_mul-outer g c = omega (arith, line_ends (c.args.outer - 1 - c.loop-o.o) c.args.outer c.args.inner (omega arith))
 
 pub exchange-requires : goal.exchange-requires
 exchange-requires g c = omega (arith, line_ends c.loop-o.o (c.args.outer - 1 - c.loop-o.o) c.args.inner (omega arith), line_ends (c.args.outer - 1 - c.loop-o.o) c.args.outer c.args.inner (omega arith))

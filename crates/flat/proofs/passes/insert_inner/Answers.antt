@@ -4,11 +4,11 @@ use Rattle.matrix.proofs.Products.{line_ends, line_wider}
 use Rattle.flat.proofs.Inserts.{Opened, opened_turn, opened_all}
 use Rattle.flat.proofs.passes.insert_inner.Goals as goal
 
-pub overflow-mul-o : goal.overflow-mul-o
-overflow-mul-o g c = omega (arith, line_wider (c.loop-o.o - 1) c.args.inner, line_ends (c.loop-o.o - 1) c.args.outer (c.args.inner + 1) (omega arith))
+pub overflow_mul-o : goal.overflow_mul-o
+overflow_mul-o g c = omega (arith, line_wider (c.loop-o.o - 1) c.args.inner, line_ends (c.loop-o.o - 1) c.args.outer (c.args.inner + 1) (omega arith))
 
-pub overflow-mul-o-in-loop-o : goal.overflow-mul-o-in-loop-o
-overflow-mul-o-in-loop-o g c = omega (arith, line_ends (c.loop-o.o - 1) c.args.outer (c.args.inner + 1) (omega arith))
+pub overflow_mul-o-in-loop-o : goal.overflow_mul-o-in-loop-o
+overflow_mul-o-in-loop-o g c = omega (arith, line_ends (c.loop-o.o - 1) c.args.outer (c.args.inner + 1) (omega arith))
 
 pub spread-requires : goal.spread-requires
 spread-requires g c = omega (arith, line_wider (c.loop-o.o - 1) c.args.inner, line_ends (c.loop-o.o - 1) c.args.outer (c.args.inner + 1) (omega arith))

@@ -1,5 +1,4 @@
 use Rattle.std.proofs.Common.{refl, arith}
-use Rattle.seating.specs.declared.seating.Seating.{Seating}
 use Rattle.seating.proofs.Seatings.{opened_seen}
 use Rattle.seating.proofs.Exchanges.{written_at}
 use Rattle.seating.proofs.seating.lines.seat_row.Goals as goal
@@ -9,11 +8,10 @@ returns g c =
     let opened = c.opened.ensures in
     let counted = c.counted.ensures in
     let wrote = c.write_row.ensures.effect in
-    let new : Seating = record { down = c.opened.result; across = c.counted.result; crossed = c.args.seats.crossed; square = omega arith; no_rows = λ e. omega arith; no_cols = λ e. omega arith } in
     record {
-      effect = opened_seen c.args.seats new c.args.i c.args.line.now c.args.s.now c.write_row.new.s
+      effect = opened_seen c.args.seats _ c.args.i c.args.line.now c.args.s.now c.write_row.new.s
           (record { seats = opened.seats; rows = opened.count; side = opened.side; across = counted.seats; cols = counted.count; crossed = refl })
           wrote (omega arith) c.requires.fits (omega arith) (omega arith);
-      cells = written_at new c.args.i c.args.line.now _ c.args.s.now c.write_row.new.s wrote;
+      cells = written_at _ c.args.i c.args.line.now _ c.args.s.now c.write_row.new.s wrote;
       side = opened.side;
     }

@@ -21,8 +21,8 @@ returns-then-count-ge-OWED g c =
       leaves = λ b h. no_journal_memory h w c.args.axis c.args.i c.args.memory.now ok p;
     }
 
-pub returns-then-saturating-sub-across : goal.returns-then-saturating-sub-across
-returns-then-saturating-sub-across g c =
+pub returns-then-saturating_sub-across : goal.returns-then-saturating_sub-across
+returns-then-saturating_sub-across g c =
     let was = c.args.self.now in
     let m = g.B.Board.matrix was.board in
     let w = g.B.Board.within was.board in
@@ -35,8 +35,8 @@ returns-then-saturating-sub-across g c =
       leaves = λ b h. no_keep_memory h w c.args.axis c.args.i c.args.memory.now ok p (omega (arith, cols, c.limit.ensures.answer, c.count-in-Ok.ensures.answer h.ordered));
     }
 
-pub returns-else-saturating-sub-across : goal.returns-else-saturating-sub-across
-returns-else-saturating-sub-across g c =
+pub returns-else-saturating_sub-across : goal.returns-else-saturating_sub-across
+returns-else-saturating_sub-across g c =
     let was = c.args.self.now in
     let ax = c.args.axis in
     let i = c.args.i in
