@@ -10,7 +10,7 @@ use cells::refusal::Refusal;
 
 // How many lines there are, and how many cells each has.
 pub(crate) fn lines<B: Board>(b: &B, axis: Axis) -> (usize, usize)
-    ensures answer { result ≡ ((along axis (matrix b.now)).rows, (along axis (matrix b.now)).cols) }
+    ensures answer { result ≡ ((along axis (B.matrix b.now)).rows, (along axis (B.matrix b.now)).cols) }
 {
     let (rows, cols) = b.size();
     match axis {
@@ -25,9 +25,9 @@ pub(crate) fn insert<B: Board>(
     i: usize,
     line: &[B::Cell],
 ) -> Result<(), Refusal>
-    ensures answer { result ≡ insert_along (limits b.old) axis i line.now (matrix b.old) }
-    ensures effect { matrix b.new ≡ answered result (inserted axis i line.now (matrix b.old)) (matrix b.old) }
-    ensures limits { limits b.new ≡ limits b.old }
+    ensures answer { result ≡ insert_along (B.limits b.old) axis i line.now (B.matrix b.old) }
+    ensures effect { B.matrix b.new ≡ answered result (inserted axis i line.now (B.matrix b.old)) (B.matrix b.old) }
+    ensures limits { B.limits b.new ≡ B.limits b.old }
 {
     match axis {
         Axis::Row => b.insert_row(i, line),
@@ -41,10 +41,10 @@ pub(crate) fn remove<B: Board>(
     i: usize,
     memory: &mut [B::Cell],
 ) -> Result<(), Refusal>
-    ensures answer { result ≡ remove_along axis i memory.old (matrix b.old) }
-    ensures effect { matrix b.new ≡ answered result (removed axis i (matrix b.old)) (matrix b.old) }
-    ensures line { memory.new ≡ answered result (over (line_of axis i (matrix b.old)) memory.old) memory.old }
-    ensures limits { limits b.new ≡ limits b.old }
+    ensures answer { result ≡ remove_along axis i memory.old (B.matrix b.old) }
+    ensures effect { B.matrix b.new ≡ answered result (removed axis i (B.matrix b.old)) (B.matrix b.old) }
+    ensures line { memory.new ≡ answered result (over (line_of axis i (B.matrix b.old)) memory.old) memory.old }
+    ensures limits { B.limits b.new ≡ B.limits b.old }
 {
     match axis {
         Axis::Row => b.remove_row(i, memory),
@@ -53,8 +53,8 @@ pub(crate) fn remove<B: Board>(
 }
 
 pub(crate) fn flip<B: Board>(b: &mut B, axis: Axis)
-    ensures effect { matrix b.new ≡ flipped axis (matrix b.old) }
-    ensures limits { limits b.new ≡ limits b.old }
+    ensures effect { B.matrix b.new ≡ flipped axis (B.matrix b.old) }
+    ensures limits { B.limits b.new ≡ B.limits b.old }
 {
     match axis {
         Axis::Row => b.flip_rows(),

@@ -9,9 +9,9 @@ use cells::refusal::Refusal;
 
 // What `insert_col` does, by way of rows.
 pub fn insert_col_by_turns<B: Board>(b: &mut B, i: usize, line: &[B::Cell]) -> Result<(), Refusal>
-    ensures answer { result ≡ insert_col_answer (limits b.old) i line.now (matrix b.old) }
-    ensures effect { matrix b.new ≡ answered result (insert_col i line.now (matrix b.old)) (matrix b.old) }
-    ensures limits { limits b.new ≡ limits b.old }
+    ensures answer { result ≡ insert_col_answer (B.limits b.old) i line.now (B.matrix b.old) }
+    ensures effect { B.matrix b.new ≡ answered result (insert_col i line.now (B.matrix b.old)) (B.matrix b.old) }
+    ensures limits { B.limits b.new ≡ B.limits b.old }
 {
     b.transpose();
     let r = b.insert_row(i, line);
@@ -25,10 +25,10 @@ pub fn remove_col_by_turns<B: Board>(
     i: usize,
     memory: &mut [B::Cell],
 ) -> Result<(), Refusal>
-    ensures answer { result ≡ remove_col_answer i memory.old (matrix b.old) }
-    ensures effect { matrix b.new ≡ answered result (remove_col i (matrix b.old)) (matrix b.old) }
-    ensures line { memory.new ≡ answered result (over (col i (matrix b.old)) memory.old) memory.old }
-    ensures limits { limits b.new ≡ limits b.old }
+    ensures answer { result ≡ remove_col_answer i memory.old (B.matrix b.old) }
+    ensures effect { B.matrix b.new ≡ answered result (remove_col i (B.matrix b.old)) (B.matrix b.old) }
+    ensures line { memory.new ≡ answered result (over (col i (B.matrix b.old)) memory.old) memory.old }
+    ensures limits { B.limits b.new ≡ B.limits b.old }
 {
     b.transpose();
     let r = b.remove_row(i, memory);
@@ -38,8 +38,8 @@ pub fn remove_col_by_turns<B: Board>(
 
 // What `flip_cols` does, by way of rows.
 pub fn flip_cols_by_turns<B: Board>(b: &mut B)
-    ensures effect { matrix b.new ≡ flip_cols (matrix b.old) }
-    ensures limits { limits b.new ≡ limits b.old }
+    ensures effect { B.matrix b.new ≡ flip_cols (B.matrix b.old) }
+    ensures limits { B.limits b.new ≡ B.limits b.old }
 {
     b.transpose();
     b.flip_rows();

@@ -15,10 +15,10 @@ pub fn row_there_and_back<B: Board>(
     line: &[B::Cell],
     memory: &mut [B::Cell],
 ) -> Result<(), Refusal>
-    ensures answer { result ≡ refused 9 (nat_lt (length memory.old) (length line.now)) (insert_row_answer (limits b.old) i line.now (matrix b.old)) }
-    ensures effect { matrix b.new ≡ matrix b.old }
+    ensures answer { result ≡ refused 9 (nat_lt (length memory.old) (length line.now)) (insert_row_answer (B.limits b.old) i line.now (B.matrix b.old)) }
+    ensures effect { B.matrix b.new ≡ B.matrix b.old }
     ensures line { memory.new ≡ answered result (over line.now memory.old) memory.old }
-    ensures limits { limits b.new ≡ limits b.old }
+    ensures limits { B.limits b.new ≡ B.limits b.old }
 {
     if memory.len() < line.len() {
         return Err(Refusal::Short);
@@ -36,10 +36,10 @@ pub fn col_there_and_back<B: Board>(
     line: &[B::Cell],
     memory: &mut [B::Cell],
 ) -> Result<(), Refusal>
-    ensures answer { result ≡ refused 9 (nat_lt (length memory.old) (length line.now)) (insert_col_answer (limits b.old) i line.now (matrix b.old)) }
-    ensures effect { matrix b.new ≡ matrix b.old }
+    ensures answer { result ≡ refused 9 (nat_lt (length memory.old) (length line.now)) (insert_col_answer (B.limits b.old) i line.now (B.matrix b.old)) }
+    ensures effect { B.matrix b.new ≡ B.matrix b.old }
     ensures line { memory.new ≡ answered result (over line.now memory.old) memory.old }
-    ensures limits { limits b.new ≡ limits b.old }
+    ensures limits { B.limits b.new ≡ B.limits b.old }
 {
     b.transpose();
     let r = row_there_and_back(b, i, line, memory);

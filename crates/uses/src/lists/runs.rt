@@ -22,9 +22,9 @@ fn one<B: Board>(
     lines: &[B::Cell],
     memory: &mut [B::Cell],
 ) -> Answer<B::Cell>
-    ensures answer { result ≡ reply (limits b.old) lines.now call (record { matrix = matrix b.old; memory = memory.old }) }
-    ensures effect { record { matrix = matrix b.new; memory = memory.new } ≡ next (limits b.old) lines.now call (record { matrix = matrix b.old; memory = memory.old }) }
-    ensures limits { limits b.new ≡ limits b.old }
+    ensures answer { result ≡ reply (B.limits b.old) lines.now call (record { matrix = B.matrix b.old; memory = memory.old }) }
+    ensures effect { record { matrix = B.matrix b.new; memory = memory.new } ≡ next (B.limits b.old) lines.now call (record { matrix = B.matrix b.old; memory = memory.old }) }
+    ensures limits { B.limits b.new ≡ B.limits b.old }
 {
     match call {
         Call::Size => {
@@ -67,9 +67,9 @@ pub fn run<B: Board>(
     memory: &mut [B::Cell],
     answers: &mut [Answer<B::Cell>],
 )
-    ensures answer { answers.new ≡ over (replies (limits b.old) lines.now (take (length answers.old) calls.now) (record { matrix = matrix b.old; memory = memory.old })) answers.old }
-    ensures effect { record { matrix = matrix b.new; memory = memory.new } ≡ after (limits b.old) lines.now (take (length answers.old) calls.now) (record { matrix = matrix b.old; memory = memory.old }) }
-    ensures limits { limits b.new ≡ limits b.old }
+    ensures answer { answers.new ≡ over (replies (B.limits b.old) lines.now (take (length answers.old) calls.now) (record { matrix = B.matrix b.old; memory = memory.old })) answers.old }
+    ensures effect { record { matrix = B.matrix b.new; memory = memory.new } ≡ after (B.limits b.old) lines.now (take (length answers.old) calls.now) (record { matrix = B.matrix b.old; memory = memory.old }) }
+    ensures limits { B.limits b.new ≡ B.limits b.old }
 {
     let n = calls.len().min(answers.len());
     for k in 0..n {

@@ -11,12 +11,12 @@ pub loop-x-preserved : goal.loop-x-preserved
 loop-x-preserved g c = λ o p.
     let i = c.loop-x.invariant o p in
     let q = c.push.ensures in
-    (q.ordered i.0, pushed_more (g.K.Keep.store c.args.keep.now) (g.K.Keep.store c.loop-x.keep) _ c.args.line.now c.loop-x.x_index c.x-item.result c.push.result i.1 p c.loop-x-test.true c.x-item.is (q.answer i.0) (q.effect i.0))
+    (q.ordered i.0, pushed_more (g.K.Keep.store c.args.keep.now) (g.K.Keep.store c.loop-x.keep) _ c.args.line.now c.loop-x.x-index c.x-item.result c.push.result i.1 p c.loop-x-test.true c.x-item.is (q.answer i.0) (q.effect i.0))
 
 pub returns : goal.returns
 returns g c = record {
   effect = λ o p.
       let i = c.loop-x.invariant o p in
       let k = g.K.Keep.store c.args.keep.now in
-      (i.0, i.1 ∙ ap (λ z. holding (k.cells ++ z) k) (take_all c.loop-x.x_index c.args.line.now c.loop-x-test.false));
+      (i.0, i.1 ∙ ap (λ z. holding (k.cells ++ z) k) (take_all c.loop-x.x-index c.args.line.now c.loop-x-test.false));
 }

@@ -10,12 +10,12 @@ returns-then-across g c =
     let s = was.seats in
     let i = c.args.i in
     let mem = c.args.memory.now in
-    let new = c.in-ok-self.field-0 in
+    let new = c.in_ok-self.field-0 in
     let r = c.remove_col.result in
     let xs = was.cells.now in
     let ys = c.remove_col.new.s in
     let e = c.if-across.true in
-    let ok = c.in-ok-self.was in
+    let ok = c.in_ok-self.was in
     let done = c.remove_col.ensures in
     record {
       answer = faced_answer c.args.across s new r xs ys e ok (remove_row_answer i mem) done.answer;

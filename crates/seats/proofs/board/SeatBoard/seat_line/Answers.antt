@@ -11,12 +11,12 @@ returns-then-across g c =
     let s = was.seats in
     let i = c.args.i in
     let line = c.args.line.now in
-    let new = c.in-ok-self.field-0 in
+    let new = c.in_ok-self.field-0 in
     let r = c.insert_col.result in
     let xs = was.cells.now in
     let ys = c.insert_col.new.s in
     let e = c.if-across.true in
-    let ok = c.in-ok-self.was in
+    let ok = c.in_ok-self.was in
     let done = c.insert_col.ensures in
     record {
       answer = faced_answer c.args.across s new r xs ys e ok (insert_row_answer (limits was) i line) done.answer;
