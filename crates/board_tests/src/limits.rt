@@ -29,7 +29,7 @@ fn refused_then_taken<B: Board<Cell = u8>>(rt: &impl Abort, b: &mut B, more: &[u
     assert_eq!(rt; b.get(0, 0), Some(1));
     let r = b.remove_row(0, &mut line);
     says(rt, r, "ok");
-    assert_eq!(rt; &line[0..4], &[1, 2, 3, 0]);
+    assert_eq!(rt; &line[0..4], [1, 2, 3, 0].as_slice());
     says(rt, b.insert_row(0, &[7, 8, 9]), "ok");
     assert_eq!(rt; b.size(), (rows, 3));
     assert_eq!(rt; b.get(0, 2), Some(9));
