@@ -1,8 +1,8 @@
 -- The passes that take a line out, and those that copy one.
-use Rattle.std.proofs.Common.{◌≡◌, ℕ, ◌+◌, ◌-◌, ◌*◌, ◌<◌, ◌≤◌, ◌⊎◌, List, length, sym, refl, ap, ◌∙◌, subst, inl, inr, ⊎_elim, arith}
+use Rattle.std.proofs.Common.{◌≡◌, ℕ, ◌+◌, ◌-◌, ◌*◌, ◌<◌, ◌≤◌, List, length, sym, refl, ap, ◌∙◌, ⊎_elim, arith}
 use Rattle.std.specs.List.{slice_get}
 use Rattle.std.proofs.lemmas.Bool.{cases_lt, cases_eq}
-use Rattle.matrix.specs.Matrix.{Matrix, skipped, inside, left_across, remove_row, remove_col, row, col, over}
+use Rattle.matrix.specs.Matrix.{skipped, inside, left_across, remove_row, remove_col, row, col, over}
 use Rattle.matrix.specs.Shapes.{rowwise}
 use Rattle.matrix.proofs.Cells.{skipped_below, skipped_above, over_is}
 use Rattle.matrix.proofs.Gather.{Gathered, gathered_all}

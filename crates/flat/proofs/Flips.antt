@@ -1,10 +1,10 @@
 -- The passes that turn the lines round.
-use Rattle.std.proofs.Common.{◌≡◌, ℕ, ◌+◌, ◌-◌, ◌*◌, ◌/◌, ◌<◌, ◌≤◌, ◌⊎◌, List, length, sym, refl, ap, ◌∙◌, subst, inl, inr, ⊎_elim, add-mul, arith}
+use Rattle.std.proofs.Common.{◌≡◌, ℕ, ◌+◌, ◌-◌, ◌*◌, ◌/◌, ◌<◌, ◌≤◌, List, length, sym, refl, ap, ◌∙◌, ⊎_elim, add-mul, arith}
 use Rattle.std.specs.List.{slice_get}
 use Rattle.std.proofs.lemmas.Bool.{cases_lt, cases_eq}
-use Rattle.matrix.specs.Matrix.{Matrix, inside, turned, flip_rows, flip_cols, rotate_half}
+use Rattle.matrix.specs.Matrix.{Matrix, turned, flip_rows, flip_cols, rotate_half}
 use Rattle.matrix.specs.Shapes.{rowwise}
-use Rattle.matrix.proofs.Products.{line_more, line_ends, line_le}
+use Rattle.matrix.proofs.Products.{line_more, line_ends}
 use Rattle.matrix.proofs.Whole.{inside_in, rowwise_is, whole_rowwise, whole_flip_rows, whole_flip_cols, whole_rotate_half, flip_in}
 use Rattle.flat.specs.Moves.{Exchanged, Reversed}
 

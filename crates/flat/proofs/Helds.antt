@@ -1,10 +1,10 @@
 -- From cells that lie in a form to what memory means under a shape.
-use Rattle.std.proofs.Common.{◌≡◌, ℕ, ◌+◌, ◌*◌, ◌<◌, ◌≤◌, List, length, Some, sym, refl, ap, ◌∙◌, arith}
+use Rattle.std.proofs.Common.{◌≡◌, ◌*◌, List, length, Some, sym, refl, ap, ◌∙◌}
 use Rattle.std.specs.List.{slice_get}
 use Rattle.matrix.specs.declared.shape.Shape.{Shape}
 use Rattle.matrix.specs.Matrix.{Matrix, inside, turned, filled}
-use Rattle.matrix.specs.Shapes.{Form, form, place, laid, fitted, held, other, turned_form}
-use Rattle.matrix.proofs.Whole.{same_inside, Whole, inside_in, inside_below, inside_right}
+use Rattle.matrix.specs.Shapes.{Form, form, place, laid, fitted, held, other}
+use Rattle.matrix.proofs.Whole.{same_inside, inside_below, inside_right}
 use Rattle.matrix.proofs.Held.{held_turned, place_below}
 use Rattle.flat.specs.Moves.{Filled}
 use Rattle.flat.specs.Turns.{Turned}

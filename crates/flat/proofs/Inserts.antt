@@ -1,8 +1,8 @@
 -- The passes that put a line in.
-use Rattle.std.proofs.Common.{◌≡◌, ℕ, ◌+◌, ◌-◌, ◌*◌, ◌<◌, ◌≤◌, ◌⊎◌, List, length, Some, sym, refl, ap, ◌∙◌, subst, inl, inr, ⊎_elim, arith}
+use Rattle.std.proofs.Common.{◌≡◌, ℕ, ◌+◌, ◌-◌, ◌*◌, ◌<◌, ◌≤◌, List, length, Some, sym, refl, ap, ◌∙◌, subst, ⊎_elim, arith}
 use Rattle.std.specs.List.{slice_get}
-use Rattle.std.proofs.lemmas.Bool.{cases_order, cases_lt, cases_eq}
-use Rattle.matrix.specs.Matrix.{Matrix, spliced, inside, turned, insert_row, insert_col}
+use Rattle.std.proofs.lemmas.Bool.{cases_order, cases_eq}
+use Rattle.matrix.specs.Matrix.{Matrix, spliced, inside, insert_row, insert_col}
 use Rattle.matrix.specs.Shapes.{rowwise}
 use Rattle.matrix.proofs.Cells.{spliced_below, spliced_at, spliced_above, spliced_same}
 use Rattle.matrix.proofs.Products.{line_more, line_wider, line_ends, line_le, line_back}

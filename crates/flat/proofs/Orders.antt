@@ -1,8 +1,7 @@
 -- From cells that lie row by row to both orders.
-use Rattle.std.proofs.Common.{◌≡◌, ℕ, ◌+◌, ◌-◌, ◌*◌, ◌<◌, ◌≤◌, ◌⊎◌, List, length, sym, refl, ap, ◌∙◌, subst, ⊎_elim, arith}
+use Rattle.std.proofs.Common.{◌≡◌, ℕ, ◌+◌, ◌-◌, ◌<◌, ◌≤◌, List, length, sym, refl, ap, ◌∙◌, ⊎_elim, arith}
 use Rattle.std.specs.List.{slice_get}
 use Rattle.std.proofs.lemmas.Bool.{cases_lt}
-use Rattle.matrix.specs.declared.shape.Order.{Order}
 use Rattle.matrix.specs.declared.shape.Order.TheVariants.{RowMajor, ColumnMajor}
 use Rattle.matrix.specs.Matrix.{Matrix, turned, insert_row, insert_col, rotate_half}
 use Rattle.matrix.specs.Shapes.{Form, place, laid, rowwise, inserted_form}

@@ -1,8 +1,7 @@
 -- Stretches of flat cells moved, spread, tightened, exchanged, turned round and filled.
-use Rattle.std.proofs.Common.{◌≡◌, ℕ, zero, suc, ◌+◌, ◌-◌, ◌*◌, ◌/◌, ◌<◌, ◌≤◌, ◌⊎◌, List, [], ◌∷◌, length, get_or, set, Some, None, Option, sym, refl, ap, ◌∙◌, subst, inl, inr, ⊎_elim, arith, length-set}
+use Rattle.std.proofs.Common.{◌≡◌, ℕ, ◌+◌, ◌-◌, ◌/◌, ◌<◌, ◌≤◌, List, length, get_or, set, Some, Option, sym, refl, ap, ◌∙◌, ⊎_elim, arith, length-set}
 use Rattle.std.specs.List.{slice_get}
 use Rattle.std.proofs.lemmas.Bool.{cases_order, cases_lt, cases_eq}
-use Rattle.matrix.specs.Matrix.{spliced, skipped}
 use Rattle.matrix.proofs.Cells.{nth_same, nth_kept, nth_set_same, nth_set_other, spliced_below, spliced_at, spliced_above, skipped_below, skipped_above}
 use Rattle.flat.specs.Moves.{Copied, Spread, Tight, Exchanged, Reversed, Filled}
 

@@ -1,10 +1,10 @@
 -- Two keeps as one.
-use Rattle.std.proofs.Common.{◌≡◌, ℕ, ◌+◌, ◌-◌, ◌<◌, ◌≤◌, min, leb, List, [], ◌∷◌, ◌++◌, length, Ok, Err, Option, Result, sym, refl, ap, ◌∙◌, append_assoc, arith, length-append}
+use Rattle.std.proofs.Common.{◌≡◌, ℕ, ◌+◌, ◌<◌, ◌≤◌, min, leb, List, [], ◌∷◌, ◌++◌, length, Ok, Option, Result, sym, refl, ap, ◌∙◌, append_assoc, arith, length-append}
 use Rattle.std.proofs.lemmas.List.{nil_from_length, append-nil, length_push}
 use Rattle.std.proofs.lemmas.Bool.Decides.{nat_tests}
 use Rattle.cells.specs.declared.refusal.Refusal.{Refusal}
 use Rattle.cells.specs.Refusals.{refused, accepted, answered}
-use Rattle.keeps.specs.Kept.{Store, holding, pushed, push_answer, newest, older, taken}
+use Rattle.keeps.specs.Kept.{Store, pushed, push_answer, newest, older, taken}
 
 abbrev pub joined : {T : Type 0} → Store T → Store T → Store T
 joined a b = record { cells = a.cells ++ b.cells; most = min (a.most + b.most) 65536 }

@@ -1,9 +1,9 @@
 -- The newest cell of a list, and the list without it.
-use Rattle.std.proofs.Common.{◌≡◌, ℕ, ◌+◌, ◌-◌, ◌<◌, ◌≤◌, min, cond, leb, List, [], ◌∷◌, ◌++◌, length, get_or, take, set, Some, Ok, Option, sym, refl, ap, ◌∙◌, arith, length-set, length-take-le}
+use Rattle.std.proofs.Common.{◌≡◌, ℕ, ◌+◌, ◌-◌, ◌<◌, ◌≤◌, min, leb, List, [], ◌∷◌, ◌++◌, length, get_or, take, set, Some, Ok, sym, refl, ap, ◌∙◌, arith, length-set, length-take-le}
 use Rattle.std.proofs.lemmas.List.{take_more, take_more_set}
 use Rattle.std.proofs.lemmas.Bool.Decides.{nat_tests}
 use Rattle.cells.specs.Refusals.{refused, accepted}
-use Rattle.keeps.specs.Kept.{Store, holding, pushed, push_answer, newest, older, taken}
+use Rattle.keeps.specs.Kept.{push_answer, newest, older}
 use Rattle.keeps.specs.Stacks.{used}
 
 pub newest_last : {X : Type 0} (xs : List X) (x : X) → newest (xs ++ (x ∷ [])) ≡ Some x

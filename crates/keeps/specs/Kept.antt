@@ -1,7 +1,7 @@
 -- What a keep means: a list of cells, and a limit.
-use Rattle.std.specs.Prelude.{◌≡◌, ℕ, ◌≤◌, List, [], ◌∷◌, ◌++◌, length, Some, None, Option, Result, nat_le}
+use Rattle.std.specs.Prelude.{ℕ, ◌≤◌, List, [], ◌∷◌, ◌++◌, length, Some, None, Option, Result, nat_le}
 use Rattle.cells.specs.declared.refusal.Refusal.{Refusal}
-use Rattle.cells.specs.Refusals.{refused, accepted, answered}
+use Rattle.cells.specs.Refusals.{refused, accepted}
 use Rattle.matrix.specs.Rules.{cell_limit}
 
 -- the cells, the oldest first, and the most cells

@@ -1,5 +1,5 @@
 -- Lists within a limit.
-use Rattle.std.proofs.Common.{◌≡◌, ℕ, ◌+◌, ◌≤◌, min, cond, leb, List, ◌++◌, length, take, arith, length-append, length-take}
+use Rattle.std.proofs.Common.{ℕ, ◌+◌, ◌≤◌, min, cond, leb, List, ◌++◌, length, take, arith, length-append, length-take}
 use Rattle.std.proofs.lemmas.Bool.Decides.{nat_tests}
 
 -- the first k cells of a list, where k is within the limit, and none where it is not

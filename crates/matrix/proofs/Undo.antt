@@ -1,12 +1,12 @@
 -- What is undone: an insertion by a removal, a removal by an insertion, a flip by itself.
-use Rattle.std.proofs.Common.{◌≡◌, ℕ, zero, suc, ◌+◌, ◌-◌, ◌<◌, ◌≤◌, ◌⊎◌, List, [], ◌∷◌, length, Some, Option, sym, refl, ap, ◌∙◌, ⊎_elim, arith}
+use Rattle.std.proofs.Common.{◌≡◌, ℕ, zero, suc, ◌-◌, ◌<◌, ◌≤◌, List, [], ◌∷◌, length, Some, Option, sym, refl, ap, ◌∙◌, ⊎_elim, arith}
 use mathlib.Core.Path.{fun_ext}
 use Rattle.std.specs.List.{slice_get}
 use Rattle.std.proofs.lemmas.Bool.Decides.{nat_tests}
 use Rattle.std.proofs.lemmas.Bool.{cases_order, cases_lt}
 use Rattle.std.proofs.lemmas.Option.{slice_get_past}
 use Rattle.matrix.specs.Matrix.{Matrix, Shaped, spliced, skipped, before, listed, row, turned, insert_row, remove_row, flip_rows, flip_cols}
-use Rattle.matrix.specs.Laws.{Undone, Mirrors, Turns}
+use Rattle.matrix.specs.Laws.{Undone, Mirrors}
 use Rattle.matrix.proofs.Cells.{spliced_below, spliced_at, spliced_above, skipped_below, skipped_above}
 use Rattle.matrix.proofs.Whole.{same_matrix, same_inside, whole_shaped, whole_turned, whole_flip_rows, flip_in, Whole}
 

@@ -1,12 +1,11 @@
 -- What a list leaves keeps to the law.
-use Rattle.std.proofs.Common.{◌≡◌, ℕ, ◌+◌, min, List, ◌++◌, map, length, take, drop, sym, refl, ap, ◌∙◌, subst, arith, length-take, take_at, drop_at}
+use Rattle.std.proofs.Common.{◌≡◌, ℕ, ◌+◌, min, List, map, length, take, drop, sym, refl, ap, ◌∙◌, subst, arith, length-take, take_at, drop_at}
 use Rattle.matrix.specs.declared.limits.Limits.{Limits}
 use Rattle.matrix.specs.Matrix.{Matrix}
 use Rattle.matrix.proofs.Stretches.{over_front, over_rest}
 use Rattle.matrix.proofs.Runs.{after_append, replies_append, replies_length}
 use Rattle.keeps.specs.Kept.{Store}
-use Rattle.sheet.specs.Book.{Book, kept, edits}
-use Rattle.sheet.specs.Stands.{Agrees}
+use Rattle.sheet.specs.Book.{Book, kept}
 use Rattle.replay.specs.declared.call.Call.{Call}
 use Rattle.replay.specs.declared.call.Answer.{Answer}
 use Rattle.replay.specs.declared.call.State.{State}

@@ -1,5 +1,5 @@
 -- A list on one sheet and its exchange on another.
-use Rattle.std.proofs.Common.{◌≡◌, ℕ, ◌≤◌, List, ◌++◌, map, length, take, drop, sym, refl, ap, ◌∙◌, subst, arith, length-take, length-take-le, take_all, take_at, drop_at}
+use Rattle.std.proofs.Common.{◌≡◌, ℕ, ◌≤◌, List, ◌++◌, map, length, take, sym, ap, ◌∙◌, subst, arith, length-take, take_all, take_at}
 use lib.Seq.{take-append-le}
 use Rattle.std.proofs.lemmas.List.{length-map, take-map, take-take}
 use Rattle.matrix.specs.declared.limits.Limits.{Limits}
@@ -9,7 +9,7 @@ use Rattle.sheet.specs.Book.{kept}
 use Rattle.replay.specs.declared.call.Call.{Call}
 use Rattle.replay.specs.declared.call.Answer.{Answer}
 use Rattle.replay.specs.World.{World, begun, after, replies}
-use Rattle.replay.specs.Laws.{Law, Mirrored, exchange, exchanged, turned_world}
+use Rattle.replay.specs.Laws.{Law, Mirrored, exchange, turned_world}
 use Rattle.replay.proofs.Exchanged.{kept_turned, length_turned}
 
 -- the first n of a list that was mapped, and then written over another

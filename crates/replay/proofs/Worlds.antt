@@ -1,5 +1,5 @@
 -- One call in a world: what it leaves on an open sheet, and on a published one.
-use Rattle.std.proofs.Common.{◌≡◌, ℕ, List, Some, None, Option, Result, sym, refl, ap, ◌∙◌, subst}
+use Rattle.std.proofs.Common.{◌≡◌, List, None, Result, sym, refl, ap, ◌∙◌, subst}
 use Rattle.matrix.specs.declared.limits.Limits.{Limits}
 use Rattle.matrix.specs.Matrix.{Matrix}
 use Rattle.keeps.specs.Kept.{Store}

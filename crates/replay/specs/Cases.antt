@@ -2,7 +2,6 @@
 use Rattle.std.specs.Prelude.{◌≡◌, ℕ, List, [], ◌∷◌, pos, Ok}
 use Rattle.cells.specs.declared.kinds.Penalty.{Penalty}
 use Rattle.matrix.specs.declared.shape.Order.TheVariants.{RowMajor}
-use Rattle.matrix.specs.Matrix.{Matrix}
 use Rattle.matrix.specs.Shapes.{rowwise, flat}
 use Rattle.matrix.specs.Rules.{grid_limits}
 use Rattle.matrix.specs.Cases as boards

@@ -12,7 +12,7 @@ use Rattle.replay.specs.declared.call.Call.{Call}
 use Rattle.replay.specs.declared.call.Call.TheVariants.{Put, Insert, Remove, Transpose, Flip, StepBack, Publish, Reopen, Get, Size, Owed, Kept, Settled}
 use Rattle.replay.specs.declared.call.Answer.{Answer}
 use Rattle.replay.specs.declared.call.Answer.TheVariants.{Said, Cell, Sized, Count, Moved, Lacking}
-use Rattle.replay.specs.World.{World, begun, after, replies}
+use Rattle.replay.specs.World.{World, after, replies}
 use Rattle.replay.specs.Tallies.{accepts, backs, settles, total}
 
 -- the matrix that stood before the newest k entries of a book

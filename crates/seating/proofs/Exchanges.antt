@@ -1,11 +1,10 @@
 -- A seating with rows and columns exchanged.
-use Rattle.std.proofs.Common.{◌≡◌, ℕ, ◌+◌, ◌*◌, ◌<◌, ◌≤◌, Bool, true, false, cond, not, leb, List, length, Ok, Err, Result, sym, refl, ap, ◌∙◌, subst}
+use Rattle.std.proofs.Common.{◌≡◌, ℕ, ◌*◌, Bool, true, false, cond, not, leb, List, length, Ok, Err, Result, sym, refl, ap, ◌∙◌, subst}
 use mathlib.Core.Path.{fun_ext}
 use Rattle.std.specs.List.{slice_get}
 use Rattle.cells.specs.declared.refusal.Refusal.{Refusal}
 use Rattle.cells.specs.Refusals.{Back}
-use Rattle.matrix.specs.declared.limits.Limits.{Limits}
-use Rattle.matrix.specs.Matrix.{Matrix, inside, turned}
+use Rattle.matrix.specs.Matrix.{inside, turned}
 use Rattle.matrix.proofs.Held.{inside_turned}
 use Rattle.matrix.proofs.Whole.{same_matrix}
 use Rattle.seating.specs.declared.bench.Bench.{Bench}

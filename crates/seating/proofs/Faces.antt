@@ -1,5 +1,5 @@
 -- Cells on seats as a flag has them turned.
-use Rattle.std.proofs.Common.{◌≡◌, ℕ, ◌+◌, ◌-◌, ◌*◌, ◌<◌, ◌≤◌, Bool, true, false, not, ◌⊎◌, List, length, get_or, set, Some, None, Ok, Err, Option, Result, sym, refl, ap, ◌∙◌, subst, ⊎_elim, arith}
+use Rattle.std.proofs.Common.{◌≡◌, ℕ, ◌-◌, ◌*◌, ◌<◌, ◌≤◌, Bool, true, false, not, List, length, get_or, set, Some, None, Ok, Err, Option, Result, sym, refl, ap, ◌∙◌, subst, ⊎_elim, arith}
 use Rattle.std.specs.List.{slice_get}
 use Rattle.std.proofs.lemmas.Bool.{cases_lt}
 use Rattle.std.proofs.lemmas.Bool.Decides.{nat_tests}
@@ -8,7 +8,7 @@ use Rattle.cells.specs.declared.refusal.Refusal.TheVariants.{Place}
 use Rattle.cells.specs.Refusals.{answered, verdict, stands}
 use Rattle.matrix.specs.Matrix.{Matrix, inside, turned, put_cell, flip_rows, flip_cols, over}
 use Rattle.matrix.specs.Rules.{put_answer}
-use Rattle.matrix.proofs.Held.{turns, placed}
+use Rattle.matrix.proofs.Held.{turns}
 use Rattle.matrix.proofs.Whole.{Whole, same_inside, inside_in, whole_flip_rows, flip_in, inside_below, inside_right}
 use Rattle.seating.specs.declared.bench.Bench.{Bench}
 use Rattle.seating.specs.declared.seating.Seating.{Seating}

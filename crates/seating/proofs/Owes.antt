@@ -1,11 +1,9 @@
 -- What every board owes, shown of cells on seats.
-use Rattle.std.proofs.Common.{◌≡◌, ℕ, ◌+◌, ◌*◌, ◌<◌, ◌≤◌, Bool, true, false, ◌⊎◌, List, length, get_or, Some, sym, refl, ap, ◌∙◌, subst, ⊎_elim, mul-le-mul, arith}
+use Rattle.std.proofs.Common.{◌≡◌, ℕ, ◌*◌, ◌<◌, ◌≤◌, Bool, true, false, List, length, get_or, Some, sym, ◌∙◌, ⊎_elim, mul-le-mul, arith}
 use Rattle.std.specs.List.{slice_get}
 use Rattle.std.proofs.lemmas.Option.{slice_get-get_or}
 use Rattle.std.proofs.lemmas.Bool.{cases_lt}
 use Rattle.std.proofs.lemmas.Bool.Decides.{nat_tests}
-use Rattle.matrix.specs.declared.limits.Limits.{Limits}
-use Rattle.matrix.specs.Matrix.{Matrix, Shaped, turned}
 use Rattle.matrix.specs.Rules.{Within}
 use Rattle.matrix.proofs.Cells.{present}
 use Rattle.matrix.proofs.Held.{within_turned}

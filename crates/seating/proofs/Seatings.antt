@@ -1,8 +1,8 @@
 -- What the tables pick out of the cells when a row comes and when one goes.
-use Rattle.std.proofs.Common.{◌≡◌, ℕ, ◌+◌, ◌-◌, ◌*◌, ◌<◌, ◌≤◌, Bool, ◌⊎◌, List, length, get_or, sym, refl, ap, ◌∙◌, ⊎_elim, arith}
+use Rattle.std.proofs.Common.{◌≡◌, ℕ, ◌+◌, ◌-◌, ◌<◌, ◌≤◌, List, length, get_or, sym, ap, ◌∙◌, ⊎_elim, arith}
 use Rattle.std.specs.List.{slice_get}
-use Rattle.std.proofs.lemmas.Bool.{cases_lt, cases_eq, cases_order}
-use Rattle.matrix.specs.Matrix.{Matrix, inside, insert_row, remove_row, spliced, skipped, left_across}
+use Rattle.std.proofs.lemmas.Bool.{cases_lt, cases_order}
+use Rattle.matrix.specs.Matrix.{Matrix, insert_row, remove_row, spliced, skipped, left_across}
 use Rattle.matrix.proofs.Cells.{spliced_below, spliced_at, spliced_above, skipped_below, skipped_above}
 use Rattle.matrix.proofs.Whole.{Whole, same_inside, inside_in, inside_below, inside_right, whole_insert_row, whole_remove_row, across_stays}
 use Rattle.seating.specs.declared.seating.Seating.{Seating}

@@ -1,9 +1,9 @@
 -- Tables in which each seat stands once, and stays so when their entries change places.
-use Rattle.std.proofs.Common.{◌≡◌, ℕ, ◌+◌, ◌-◌, ◌<◌, ◌≤◌, cond, ltb, ◌⊎◌, List, ◌++◌, reverse, length, get_or, take, drop, set, sym, refl, ap, ◌∙◌, inl, inr, ⊎_elim, arith}
+use Rattle.std.proofs.Common.{◌≡◌, ℕ, ◌+◌, ◌-◌, ◌<◌, ◌≤◌, cond, ltb, List, reverse, length, get_or, take, drop, set, sym, ap, ◌∙◌, ⊎_elim, arith}
 use Rattle.std.proofs.lemmas.List.{get_or-set_same, get_or-set_other, get_or_append_left, get_or-append_right, get_or-reverse, get_or-take, get_or-drop, length-take-le, length-reverse}
 use Rattle.std.proofs.lemmas.Bool.{cases_lt, cases_eq, cases_order}
 use Rattle.std.proofs.lemmas.Bool.Decides.{nat_tests}
-use Rattle.matrix.specs.Matrix.{spliced, skipped}
+use Rattle.matrix.specs.Matrix.{spliced}
 use Rattle.matrix.proofs.Cells.{spliced_below, spliced_at, spliced_above}
 use Rattle.seating.specs.Benches.{flipped}
 

@@ -1,5 +1,5 @@
 -- What an accepted edit and a refused one leave of the agreement of a sheet with a book.
-use Rattle.std.proofs.Common.{◌≡◌, ℕ, ◌+◌, ◌-◌, ◌<◌, ◌≤◌, Bool, true, false, ltb, leb, List, [], ◌∷◌, ◌++◌, length, Ok, Err, Result, sym, refl, ap, ◌∙◌, subst, arith, length-append, le-ltb, lt-ltb, le-leb}
+use Rattle.std.proofs.Common.{◌≡◌, ◌<◌, ◌≤◌, true, false, List, [], ◌∷◌, ◌++◌, length, Ok, Err, Result, sym, refl, ap, ◌∙◌, subst, arith, length-append, le-leb}
 use borrow.Author.Tests.{lt-leb}
 use Rattle.cells.specs.declared.refusal.Refusal.{Refusal}
 use Rattle.cells.specs.declared.refusal.Refusal.TheVariants.{Journal}
@@ -10,7 +10,7 @@ use Rattle.matrix.specs.Rules.{Within}
 use Rattle.std.proofs.lemmas.List.{append-nil}
 use Rattle.keeps.specs.Kept.{Store, holding}
 use Rattle.sheet.specs.declared.edit.Edit.{Edit}
-use Rattle.sheet.specs.Book.{Book, Entry, kept, edits, full, lacks, entered, plain_said}
+use Rattle.sheet.specs.Book.{Book, Entry, edits, full, entered, plain_said}
 use Rattle.sheet.specs.Stands.{Agrees, Undoable, undone}
 
 pub length_edits : {T : Type 0} (es : List (Entry T)) → length (edits es) ≡ length es

@@ -1,5 +1,5 @@
 -- The agreement after an insertion and after a put.
-use Rattle.std.proofs.Common.{◌≡◌, ℕ, ◌+◌, ◌-◌, ◌<◌, ◌≤◌, true, false, ltb, leb, List, [], ◌∷◌, ◌++◌, length, Some, None, Ok, Err, Option, Result, sym, refl, ap, ◌∙◌, subst, ⊎_elim, arith, le-ltb, lt-ltb}
+use Rattle.std.proofs.Common.{◌≡◌, ℕ, ◌-◌, ◌<◌, ◌≤◌, true, false, List, [], ◌∷◌, ◌++◌, length, Some, None, Ok, Err, Option, Result, sym, refl, ap, ◌∙◌, subst, ⊎_elim, arith, le-ltb, lt-ltb}
 use Rattle.std.proofs.lemmas.Bool.{cases_lt}
 use Rattle.std.proofs.lemmas.Bool.Decides.{nat_tests}
 use Rattle.cells.specs.declared.refusal.Refusal.{Refusal}
@@ -8,14 +8,14 @@ use Rattle.cells.specs.Refusals.{answered, refused, accepted}
 use Rattle.matrix.specs.declared.limits.Limits.{Limits}
 use Rattle.matrix.specs.Matrix.{Matrix, Shaped, insert_row, put_cell}
 use Rattle.matrix.specs.Rules.{Within, put_answer, insert_answer}
-use Rattle.keeps.specs.Kept.{Store, holding, pushed, push_answer}
+use Rattle.keeps.specs.Kept.{Store, pushed, push_answer}
 use Rattle.sheet.specs.declared.edit.Axis.{Axis}
 use Rattle.sheet.specs.declared.edit.Edit.{Edit}
 use Rattle.sheet.specs.declared.edit.Edit.TheVariants.{Put, Insert}
 use Rattle.sheet.specs.Axes.{along, inserted, insert_along}
 use Rattle.sheet.specs.Book.{Book, kept, full, lacks, entered, then, insert_said, insert_book, put_said, put_book, alone}
 use Rattle.sheet.specs.Stands.{Agrees}
-use Rattle.sheet.proofs.Undoes.{along_twice, along_within, insert_undone, met_at, met_wide, put_undone}
+use Rattle.sheet.proofs.Undoes.{along_twice, insert_undone, met_at, met_wide, put_undone}
 use Rattle.sheet.proofs.Agreements.{is_full, not_full, enter, accept, refuse, same_store, book_within}
 
 -- a check on numbers that are the board's

@@ -1,12 +1,11 @@
 -- Each edit can be undone: what its undoing asks of the board holds, and gives the matrix before.
-use Rattle.std.proofs.Common.{◌≡◌, ℕ, ◌+◌, ◌-◌, ◌*◌, ◌<◌, ◌≤◌, ◌⊎◌, List, [], ◌∷◌, length, Some, None, Ok, Option, sym, refl, ap, ◌∙◌, subst, ⊎_elim, arith}
+use Rattle.std.proofs.Common.{◌≡◌, ℕ, ◌+◌, ◌-◌, ◌*◌, ◌<◌, ◌≤◌, List, length, Some, Ok, sym, refl, ap, ◌∙◌, ⊎_elim, arith}
 use Rattle.std.proofs.lemmas.Bool.{cases_eq, cases_lt}
 use Rattle.std.proofs.lemmas.Bool.Decides.{nat_tests}
 use Rattle.matrix.specs.declared.limits.Limits.{Limits}
-use Rattle.matrix.specs.Matrix.{Matrix, Shaped, turned, put_cell, insert_row, remove_row, row, flip_rows}
-use Rattle.matrix.specs.Rules.{Within, put_answer, insert_answer, insert_row_answer, remove_answer}
+use Rattle.matrix.specs.Matrix.{Matrix, put_cell, insert_row, remove_row, row, flip_rows}
+use Rattle.matrix.specs.Rules.{Within, insert_answer, insert_row_answer}
 use Rattle.matrix.proofs.Held.{within_turned}
-use Rattle.matrix.proofs.Products.{line_back}
 use Rattle.matrix.proofs.Undo.{remove_insert, insert_remove, row_length, flip_rows_twice}
 use Rattle.matrix.proofs.Whole.{same_matrix, whole_shaped, across_stays}
 use Rattle.sheet.specs.declared.edit.Axis.{Axis}

@@ -1,8 +1,8 @@
 -- A list of calls, one call longer.
-use Rattle.std.proofs.Common.{◌≡◌, ℕ, suc, ◌+◌, ◌<◌, ◌≤◌, List, [], ◌∷◌, ◌++◌, length, take, set, Some, sym, refl, ap, ◌∙◌, arith, length-take-le}
+use Rattle.std.proofs.Common.{◌≡◌, ℕ, suc, ◌+◌, ◌<◌, List, [], ◌∷◌, ◌++◌, length, take, set, Some, sym, refl, ap, ◌∙◌, arith, length-take-le}
 use Rattle.std.specs.List.{slice_get}
 use Rattle.matrix.specs.declared.limits.Limits.{Limits}
-use Rattle.matrix.specs.Matrix.{Matrix, over}
+use Rattle.matrix.specs.Matrix.{over}
 use Rattle.uses.specs.declared.lists.Call.{Call}
 use Rattle.uses.specs.declared.lists.Answer.{Answer}
 use Rattle.uses.specs.Lists.{State, reply, next, after, replies}

@@ -1,6 +1,5 @@
-use Rattle.std.proofs.Common.{ap, ◌∙◌}
 use Rattle.matrix.specs.Matrix.{filled}
-use Rattle.matrix.specs.Shapes.{form, fitted}
+use Rattle.matrix.specs.Shapes.{form}
 use Rattle.flat.proofs.Helds.{stays, filled_laid}
 use Rattle.flat.proofs.calls.fill.Goals as goal
 

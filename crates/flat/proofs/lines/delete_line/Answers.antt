@@ -1,6 +1,6 @@
-use Rattle.std.proofs.Common.{◌≡◌, ◌-◌, sym, refl, ap, ◌∙◌}
+use Rattle.std.proofs.Common.{◌-◌, refl, ap, ◌∙◌}
 use Rattle.matrix.specs.Matrix.{remove_row}
-use Rattle.matrix.specs.Shapes.{Form, form, laid, deleted_form}
+use Rattle.matrix.specs.Shapes.{form, laid, deleted_form}
 use Rattle.flat.proofs.Orders.{in_row_major, in_column_major}
 use Rattle.flat.proofs.lines.delete_line.Goals as goal
 use Rattle.flat.proofs.lines.delete_line.Goals.{in-RowMajor, in-ColumnMajor}

@@ -1,4 +1,4 @@
-use Rattle.std.proofs.Common.{◌≡◌, ◌+◌, ◌*◌, ◌≤◌, arith}
+use Rattle.std.proofs.Common.{arith}
 use Rattle.matrix.proofs.Products.{line_more, line_le}
 use Rattle.flat.proofs.Inserts.{inserted_outer}
 use Rattle.flat.proofs.passes.insert_outer.Goals as goal

@@ -1,6 +1,6 @@
-use Rattle.std.proofs.Common.{◌≡◌, ◌-◌, ◌<◌, ◌≤◌, [], ◌++◌, length, get_or, take, drop, set, sym, refl, ap, ◌∙◌, arith, length-set}
-use Rattle.std.proofs.lemmas.List.{take_all, drop_all, append-nil}
-use Rattle.keeps.specs.Kept.{holding, newest}
+use Rattle.std.proofs.Common.{◌≡◌, ◌-◌, ◌<◌, ◌≤◌, ◌++◌, length, get_or, sym, ap, ◌∙◌, arith, length-set}
+use Rattle.std.proofs.lemmas.List.{take_all, drop_all}
+use Rattle.keeps.specs.Kept.{holding}
 use Rattle.keeps.proofs.Pulls.{pulled_more, filled_more, some_some, never_none}
 use Rattle.keeps.proofs.lines.pull_line.Goals as goal
 

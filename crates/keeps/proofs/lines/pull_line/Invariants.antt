@@ -1,4 +1,4 @@
-use Rattle.std.proofs.Common.{◌≡◌, ◌+◌, ◌≤◌, List, ◌++◌, length, take, drop}
+use Rattle.std.proofs.Common.{◌≡◌, ◌≤◌, List, ◌++◌, length, take, drop}
 use Rattle.keeps.specs.Kept.{holding}
 use Rattle.keeps.proofs.lines.pull_line.Given as goal
 

@@ -1,4 +1,4 @@
-use Rattle.std.proofs.Common.{◌≡◌, sym, ap, ◌∙◌, subst}
+use Rattle.std.proofs.Common.{sym, ap, ◌∙◌, subst}
 use Rattle.replay.specs.World.{Holds, board_of, keep_of}
 use Rattle.replay.proofs.Runs.{owes_nothing}
 use Rattle.replay.proofs.lists.parts.Goals as goal

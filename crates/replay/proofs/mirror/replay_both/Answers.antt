@@ -1,4 +1,4 @@
-use Rattle.std.proofs.Common.{◌≡◌, ℕ, ◌-◌, map, length, take, drop, ap, ◌∙◌, arith, length-take-le, drop_at}
+use Rattle.std.proofs.Common.{◌≡◌, ℕ, ◌-◌, length, take, drop, ap, ◌∙◌, arith, length-take-le, drop_at}
 use Rattle.replay.specs.World.{begun}
 use Rattle.replay.specs.Laws.{room, exchange}
 use Rattle.replay.proofs.Mirrors.{take_mapped, law_of, front_is, mirrored}

@@ -1,4 +1,4 @@
-use Rattle.std.proofs.Common.{◌≡◌, ◌-◌, length, take, drop, Some, sym, refl, ap, ◌∙◌}
+use Rattle.std.proofs.Common.{◌-◌, length, take, drop, Some, sym, refl, ap, ◌∙◌}
 use Rattle.sheet.specs.Book.{settle, insert_said, insert_book, remove_said, remove_book, remove_memory, back_said, back_book, back_memory}
 use Rattle.replay.specs.declared.call.Answer.TheVariants.{Said, Count}
 use Rattle.replay.specs.declared.call.State.TheVariants.{Published}

@@ -1,4 +1,4 @@
-use Rattle.std.proofs.Common.{◌≡◌, None, sym, refl, ap, ◌∙◌}
+use Rattle.std.proofs.Common.{None, sym, refl, ap, ◌∙◌}
 use Rattle.replay.specs.declared.call.Answer.TheVariants.{Cell, Sized, Count, Moved, Lacking}
 use Rattle.replay.specs.declared.call.State.TheVariants.{Open, Published}
 use Rattle.replay.specs.World.{next, reply, by_stage}

@@ -1,4 +1,4 @@
-use Rattle.std.proofs.Common.{ap, ◌∙◌, rules}
+use Rattle.std.proofs.Common.{ap, ◌∙◌}
 use Rattle.matrix.specs.Shapes.{held}
 use Rattle.grid.proofs.Makes.{made_vec, limits_taken, vec_order}
 use Rattle.grid.proofs.grid.Grid.from_vec_with_order.Goals as goal

@@ -1,6 +1,4 @@
-use Rattle.std.proofs.Common.{◌≡◌, ◌*◌, List, ap, ◌∙◌}
-use Rattle.matrix.specs.Matrix.{Matrix, over}
-use Rattle.matrix.specs.Shapes.{flat}
+use Rattle.std.proofs.Common.{◌*◌, ap, ◌∙◌}
 use Rattle.grid.proofs.Makes.{vec_count, shown_again}
 use Rattle.grid.proofs.grid.Grid.round_trip.Goals as goal
 

@@ -1,4 +1,4 @@
-use Rattle.std.proofs.Common.{◌≡◌, ℕ, ◌+◌, ◌<◌, min, length, ap, arith, length-append}
+use Rattle.std.proofs.Common.{◌≡◌, ◌+◌, ◌<◌, min, length, ap, arith, length-append}
 use Rattle.keeps.proofs.Joins.{first_answer, first_effect, first_filled, second_answer, second_effect, second_filled}
 use Rattle.keeps.proofs.joined.JoinedKeepKeep.push.Goals as goal
 

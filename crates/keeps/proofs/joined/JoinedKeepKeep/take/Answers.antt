@@ -1,4 +1,4 @@
-use Rattle.std.proofs.Common.{◌≡◌, ℕ, ◌+◌, ◌<◌, min, length, ap, arith}
+use Rattle.std.proofs.Common.{◌≡◌, ◌+◌, ◌<◌, min, length, ap, arith}
 use Rattle.keeps.proofs.Joins.{late_answer, late_effect, late_filled, early_answer, early_effect, early_filled}
 use Rattle.keeps.proofs.joined.JoinedKeepKeep.take.Goals as goal
 

@@ -1,4 +1,4 @@
-use Rattle.std.proofs.Common.{◌≡◌, ℕ, ◌<◌, List, sym, ap, subst, arith}
+use Rattle.std.proofs.Common.{ℕ, ◌<◌, sym, subst, arith}
 use Rattle.seating.specs.Benches.{flipped}
 use Rattle.seating.proofs.Tables.{Below, Once, mirror, mirror_in, mirror_apart, mirror_at, reseated_below, reseated_once}
 use Rattle.seating.proofs.bench.Bench.flip.Goals as goal

@@ -1,4 +1,4 @@
-use Rattle.std.proofs.Common.{◌≡◌, ◌<◌, get_or, sym, ap, arith}
+use Rattle.std.proofs.Common.{get_or, sym, ap, arith}
 use Rattle.matrix.proofs.Products.{line_ends}
 use Rattle.seating.specs.Seats.{spot}
 use Rattle.seating.proofs.seating.Seating.spot.Goals as goal

@@ -1,4 +1,4 @@
-use Rattle.std.proofs.Common.{◌≡◌, ◌*◌, ◌≤◌, length, arith, rules}
+use Rattle.std.proofs.Common.{◌*◌, ◌≤◌, length, arith, rules}
 use Rattle.matrix.specs.Matrix.{insert_row}
 use Rattle.seating.proofs.Fits.{carried}
 use Rattle.seating.proofs.seating.edits.insert_row.Goals as goal

@@ -1,4 +1,4 @@
-use Rattle.std.proofs.Common.{◌≡◌, ◌*◌, ◌<◌, ◌≤◌, length, sym, refl, ap, ◌∙◌, arith, rules}
+use Rattle.std.proofs.Common.{◌*◌, ◌<◌, ◌≤◌, length, sym, refl, ap, ◌∙◌, rules}
 use Rattle.matrix.specs.Matrix.{remove_row, row, over}
 use Rattle.seating.proofs.Fits.{carried, seated_in}
 use Rattle.seating.proofs.Seatings.{closed_seen}

@@ -1,6 +1,5 @@
 use Rattle.std.proofs.Common.{◌≡◌, ℕ, ◌+◌, ◌<◌, length, set, sym, refl, subst, arith}
 use Rattle.std.proofs.lemmas.Option.{slice_get_read}
-use Rattle.seating.specs.Seats.{spot_of}
 use Rattle.seating.specs.Lines.{Written}
 use Rattle.seating.proofs.Spots.{written_none, written_more}
 use Rattle.seating.proofs.seating.lines.write_row.Goals as goal

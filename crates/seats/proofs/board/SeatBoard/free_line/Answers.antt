@@ -1,4 +1,4 @@
-use Rattle.std.proofs.Common.{◌≡◌, refl, arith}
+use Rattle.std.proofs.Common.{refl, arith}
 use Rattle.matrix.specs.Matrix.{remove_row, row}
 use Rattle.matrix.specs.Rules.{remove_row_answer}
 use Rattle.seating.proofs.Faces.{faced_answer, faced_effect, faced_line, faced_limits}

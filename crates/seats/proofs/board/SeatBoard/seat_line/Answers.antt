@@ -1,4 +1,4 @@
-use Rattle.std.proofs.Common.{◌≡◌, refl, arith}
+use Rattle.std.proofs.Common.{refl, arith}
 use Rattle.matrix.specs.Matrix.{insert_row}
 use Rattle.matrix.specs.Rules.{insert_row_answer}
 use Rattle.seating.proofs.Faces.{faced_answer, faced_effect, faced_cells, faced_limits}

@@ -1,7 +1,6 @@
 use Rattle.std.proofs.Common.{refl, ap, ◌∙◌, arith}
 use Rattle.sheet.specs.declared.edit.Edit.TheVariants.{Flip}
 use Rattle.sheet.specs.Axes.{flipped}
-use Rattle.sheet.specs.Stands.{noted}
 use Rattle.sheet.proofs.Undoes.{flip_undone}
 use Rattle.sheet.proofs.Agreements.{plain_refused, plain_done, book_within}
 use Rattle.sheet.proofs.sheets.OpenSheet.flip.Goals as goal

@@ -1,7 +1,6 @@
-use Rattle.std.proofs.Common.{◌≡◌, ◌<◌, ◌≤◌, length, Ok, sym, refl, ap, ◌∙◌, arith}
+use Rattle.std.proofs.Common.{◌<◌, ◌≤◌, length, sym, ap, ◌∙◌, arith}
 use Rattle.cells.specs.Refusals.{answered}
-use Rattle.matrix.specs.Matrix.{Matrix}
-use Rattle.sheet.specs.Axes.{along, inserted, insert_along}
+use Rattle.sheet.specs.Axes.{along, inserted}
 use Rattle.sheet.specs.Stands.{noted}
 use Rattle.sheet.proofs.Edits.{checked, insert_refused, insert_accepted}
 use Rattle.sheet.proofs.sheets.OpenSheet.insert.Goals as goal

@@ -1,4 +1,4 @@
-use Rattle.std.proofs.Common.{◌≡◌, ◌<◌, ◌≤◌, length, sym, ◌∙◌, arith}
+use Rattle.std.proofs.Common.{◌<◌, ◌≤◌, length, sym, ◌∙◌, arith}
 use Rattle.sheet.specs.Stands.{noted}
 use Rattle.sheet.proofs.Edits.{put_nowhere, put_no_journal, put_no_keep, put_accepted}
 use Rattle.sheet.proofs.sheets.OpenSheet.put.Goals as goal

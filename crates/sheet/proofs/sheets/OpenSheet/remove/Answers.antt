@@ -1,12 +1,12 @@
-use Rattle.std.proofs.Common.{◌≡◌, ◌+◌, ◌-◌, ◌<◌, ◌≤◌, ◌++◌, length, take, sym, refl, ap, ◌∙◌, arith, rules}
+use Rattle.std.proofs.Common.{◌≡◌, ◌-◌, ◌<◌, ◌≤◌, ◌++◌, length, take, sym, ap, ◌∙◌, arith}
 use Rattle.cells.specs.Refusals.{answered}
-use Rattle.matrix.specs.Matrix.{Matrix, over}
+use Rattle.matrix.specs.Matrix.{over}
 use Rattle.matrix.proofs.Undo.{row_length}
 use Rattle.keeps.specs.Kept.{holding}
 use Rattle.sheet.specs.Axes.{along, removed, line_of}
 use Rattle.sheet.specs.Stands.{noted}
 use Rattle.sheet.proofs.Undoes.{along_within}
-use Rattle.sheet.proofs.Removes.{checked_out, met_in, met_long, taken_over, remove_no_journal, no_journal_memory, remove_no_keep, no_keep_memory, remove_accepted, accepted_memory}
+use Rattle.sheet.proofs.Removes.{checked_out, met_in, taken_over, remove_no_journal, no_journal_memory, remove_no_keep, no_keep_memory, remove_accepted, accepted_memory}
 use Rattle.sheet.proofs.sheets.OpenSheet.remove.Goals as goal
 
 pub returns-then-count-ge-OWED : goal.returns-then-count-ge-OWED

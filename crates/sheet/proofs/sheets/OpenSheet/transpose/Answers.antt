@@ -1,7 +1,6 @@
 use Rattle.std.proofs.Common.{refl, ap, ◌∙◌, arith}
 use Rattle.matrix.specs.Matrix.{turned}
 use Rattle.sheet.specs.declared.edit.Edit.TheVariants.{Transpose}
-use Rattle.sheet.specs.Stands.{noted}
 use Rattle.sheet.proofs.Agreements.{plain_refused, plain_done}
 use Rattle.sheet.proofs.sheets.OpenSheet.transpose.Goals as goal
 

@@ -1,10 +1,9 @@
-use Rattle.std.proofs.Common.{◌≡◌, ℕ, ◌+◌, min, List, length, take, drop, sym, refl, ap, ◌∙◌, subst, arith, take_all, rules}
+use Rattle.std.proofs.Common.{◌≡◌, min, length, refl, ap, ◌∙◌, arith, rules}
 use Rattle.std.proofs.lemmas.Option.{slice_get_read}
 use Rattle.matrix.specs.Matrix.{over}
-use Rattle.uses.specs.declared.lists.Answer.{Answer}
 use Rattle.uses.specs.Lists.{State, after, replies}
 use Rattle.uses.proofs.Stretches.{take_clipped}
-use Rattle.uses.proofs.Runs.{Ran, ran_none, ran_more}
+use Rattle.uses.proofs.Runs.{ran_none, ran_more}
 use Rattle.uses.proofs.lists.runs.run.Goals as goal
 
 pub loop-k-init : goal.loop-k-init

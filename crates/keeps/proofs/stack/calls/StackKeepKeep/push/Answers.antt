@@ -1,5 +1,4 @@
-use Rattle.std.proofs.Common.{◌≡◌, ℕ, ◌<◌, min, length, refl, ap, ◌∙◌, arith, length-set, rules}
-use Rattle.keeps.specs.Kept.{Store}
+use Rattle.std.proofs.Common.{◌≡◌, ℕ, min, length, ap, ◌∙◌, arith, length-set}
 use Rattle.keeps.proofs.Newest.{stack_pushed, room_answer}
 use Rattle.keeps.proofs.stack.calls.StackKeepKeep.push.Goals as goal
 

@@ -1,4 +1,4 @@
-use Rattle.std.proofs.Common.{◌≡◌, ℕ, ◌-◌, min, length, get_or, take, sym, refl, ap, ◌∙◌, arith}
+use Rattle.std.proofs.Common.{ℕ, ◌-◌, min, length, get_or, take, sym, refl, ap, ◌∙◌, arith}
 use Rattle.keeps.specs.Kept.{newest, older}
 use Rattle.keeps.proofs.Newest.{newest_last, older_last, stack_split, stack_left}
 use Rattle.keeps.proofs.stack.calls.StackKeepKeep.take.Goals as goal

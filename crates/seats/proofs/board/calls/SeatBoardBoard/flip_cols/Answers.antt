@@ -1,4 +1,4 @@
-use Rattle.std.proofs.Common.{◌≡◌, length}
+use Rattle.std.proofs.Common.{length}
 use Rattle.matrix.specs.Matrix.{flip_cols}
 use Rattle.seating.proofs.Exchanges.{limits_side}
 use Rattle.seating.proofs.Faces.{turned_facing, upright_facing, flipped_down, flipped_across, across_side}

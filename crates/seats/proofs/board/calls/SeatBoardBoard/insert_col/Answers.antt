@@ -1,4 +1,4 @@
-use Rattle.std.proofs.Common.{◌≡◌, ap, ◌∙◌}
+use Rattle.std.proofs.Common.{ap, ◌∙◌}
 use Rattle.matrix.specs.Matrix.{insert_row}
 use Rattle.matrix.specs.Rules.{insert_row_answer}
 use Rattle.seating.proofs.Faces.{facing_not, crosswise}

@@ -1,4 +1,4 @@
-use Rattle.std.proofs.Common.{◌≡◌, length, sym, refl, ap, ◌∙◌, length-set}
+use Rattle.std.proofs.Common.{length, sym, ap, ◌∙◌, length-set}
 use Rattle.seating.specs.Seats.{seated_limits}
 use Rattle.seating.proofs.Faces.{put_faced, put_taken}
 use Rattle.seats.proofs.board.calls.SeatBoardBoard.put.Goals as goal

@@ -1,4 +1,4 @@
-use Rattle.std.proofs.Common.{◌≡◌, ap, ◌∙◌}
+use Rattle.std.proofs.Common.{ap, ◌∙◌}
 use Rattle.cells.specs.Refusals.{answered}
 use Rattle.matrix.specs.Matrix.{remove_row, row, over}
 use Rattle.matrix.specs.Rules.{remove_row_answer}
