@@ -5,7 +5,7 @@
 // - `grid!` and `grid_cm!` with rows of unequal length, which do not compile: there is no macro here that makes a grid;
 // - `iter`, `iter_mut`, `iter_row`, `iter_row_mut`, `iter_col`, `iter_col_mut`, `iter_rows`, `iter_cols`, `indexed_iter`,
 //   `indexed_iter_mut` and `indexed_into_iter`: the grid has no iterators;
-// - `fill_with`, `map` and `map_ref`: they take closures, which the language does not have;
+// - `fill_with`, `map` and `map_ref`: they take closures, and the grid has no calls that do;
 // - `fill`, `expand_rows`, `expand_cols`, `prepend_rows` and `prepend_cols`: the grid has no such calls.
 use crate::expect::*;
 use grid::grid::Grid;
