@@ -6,6 +6,7 @@ ghost use Rattle.grid.proofs.Owes.{grid_within};
 use crate::board::Board;
 use cells::refusal::Refusal;
 use grid::grid::Grid;
+use matrix::axis::Axis;
 use matrix::limits::Limits;
 
 impl<'a, T: Copy> Board for Grid<'a, T> {
@@ -33,31 +34,19 @@ impl<'a, T: Copy> Board for Grid<'a, T> {
         Grid::put(self, r, c, x)
     }
 
-    fn insert_row(&mut self, i: usize, line: &[T]) -> Result<(), Refusal> {
-        Grid::insert_row(self, i, line)
+    fn insert(&mut self, axis: Axis, i: usize, line: &[T]) -> Result<(), Refusal> {
+        Grid::insert(self, axis, i, line)
     }
 
-    fn insert_col(&mut self, i: usize, line: &[T]) -> Result<(), Refusal> {
-        Grid::insert_col(self, i, line)
-    }
-
-    fn remove_row(&mut self, i: usize, memory: &mut [T]) -> Result<(), Refusal> {
-        Grid::remove_row(self, i, memory)
-    }
-
-    fn remove_col(&mut self, i: usize, memory: &mut [T]) -> Result<(), Refusal> {
-        Grid::remove_col(self, i, memory)
+    fn remove(&mut self, axis: Axis, i: usize, memory: &mut [T]) -> Result<(), Refusal> {
+        Grid::remove(self, axis, i, memory)
     }
 
     fn transpose(&mut self) {
         Grid::transpose(self)
     }
 
-    fn flip_rows(&mut self) {
-        Grid::flip_rows(self)
-    }
-
-    fn flip_cols(&mut self) {
-        Grid::flip_cols(self)
+    fn flip(&mut self, axis: Axis) {
+        Grid::flip(self, axis)
     }
 }

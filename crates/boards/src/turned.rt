@@ -5,6 +5,7 @@ ghost use Rattle.matrix.proofs.Held.{within_turned};
 
 use crate::board::Board;
 use cells::refusal::Refusal;
+use matrix::axis::Axis;
 use matrix::limits::Limits;
 
 // Each call goes down as its exchange.
@@ -54,31 +55,19 @@ impl<B: Board> Board for TurnedBoard<B> {
         self.lower.put(c, r, x)
     }
 
-    fn insert_row(&mut self, i: usize, line: &[B::Cell]) -> Result<(), Refusal> {
-        self.lower.insert_col(i, line)
+    fn insert(&mut self, axis: Axis, i: usize, line: &[B::Cell]) -> Result<(), Refusal> {
+        self.lower.insert(axis.other(), i, line)
     }
 
-    fn insert_col(&mut self, i: usize, line: &[B::Cell]) -> Result<(), Refusal> {
-        self.lower.insert_row(i, line)
-    }
-
-    fn remove_row(&mut self, i: usize, memory: &mut [B::Cell]) -> Result<(), Refusal> {
-        self.lower.remove_col(i, memory)
-    }
-
-    fn remove_col(&mut self, i: usize, memory: &mut [B::Cell]) -> Result<(), Refusal> {
-        self.lower.remove_row(i, memory)
+    fn remove(&mut self, axis: Axis, i: usize, memory: &mut [B::Cell]) -> Result<(), Refusal> {
+        self.lower.remove(axis.other(), i, memory)
     }
 
     fn transpose(&mut self) {
         self.lower.transpose()
     }
 
-    fn flip_rows(&mut self) {
-        self.lower.flip_cols()
-    }
-
-    fn flip_cols(&mut self) {
-        self.lower.flip_rows()
+    fn flip(&mut self, axis: Axis) {
+        self.lower.flip(axis.other())
     }
 }

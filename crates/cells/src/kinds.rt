@@ -10,13 +10,14 @@ pub trait Kind: Copy {
         ensures answer { result ≡ nothing };
 
     // Yes exactly when both are one value.
+    // kept: the derived `==` says only that the parts are equal; that both are one value is promised here.
     fn same(&self, other: &Self) -> bool
         ensures only { T result → self.now ≡ other.now }
         ensures all { self.now ≡ other.now → T result };
 }
 
 // Why a crew has no time at a point.
-#[derive(Clone, Copy)]
+#[derive(Clone, Copy, Debug, PartialEq, Eq)]
 pub enum Mark {
     DidNotStart,
     DidNotFinish,
@@ -25,7 +26,7 @@ pub enum Mark {
 }
 
 // What a scorer keys at a timing point: nothing yet, a time in thousandths of a second, or a mark.
-#[derive(Clone, Copy)]
+#[derive(Clone, Copy, Debug, PartialEq, Eq)]
 pub enum Passage {
     Blank,
     Time(u32),
@@ -33,7 +34,7 @@ pub enum Passage {
 }
 
 // Thousandths of a second added to a crew's time, or taken off it.
-#[derive(Clone, Copy)]
+#[derive(Clone, Copy, Debug, PartialEq, Eq)]
 pub struct Penalty(pub i32);
 
 impl Mark {
@@ -41,13 +42,7 @@ impl Mark {
         ensures only { T result → self ≡ other }
         ensures all { self ≡ other → T result }
     {
-        match (self, other) {
-            (Mark::DidNotStart, Mark::DidNotStart) => true,
-            (Mark::DidNotFinish, Mark::DidNotFinish) => true,
-            (Mark::Disqualified, Mark::Disqualified) => true,
-            (Mark::OffCourse, Mark::OffCourse) => true,
-            _ => false,
-        }
+        self == other
     }
 }
 
@@ -59,12 +54,7 @@ impl Kind for Passage {
     }
 
     fn same(&self, other: &Passage) -> bool {
-        match (*self, *other) {
-            (Passage::Blank, Passage::Blank) => true,
-            (Passage::Time(a), Passage::Time(b)) => a == b,
-            (Passage::Mark(a), Passage::Mark(b)) => a.same(b),
-            _ => false,
-        }
+        self.eq(other)
     }
 }
 

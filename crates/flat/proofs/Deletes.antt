@@ -1,4 +1,4 @@
--- The passes that take a line out, and those that copy one.
+-- A line taken out, and a line copied.
 use Rattle.std.proofs.Common.{◌≡◌, ℕ, ◌+◌, ◌-◌, ◌*◌, ◌<◌, ◌≤◌, List, length, sym, refl, ap, ◌∙◌, ⊎_elim, arith}
 use Rattle.std.specs.List.{slice_get}
 use Rattle.std.proofs.lemmas.Bool.{cases_lt, cases_eq}
@@ -15,9 +15,6 @@ pub record Closed {T : Type 0} (xs ys : List T) (n at o : ℕ) : Type 0 where
   pub len : length ys ≡ length xs
   pub moved : (a b : ℕ) → a < o → b < n - 1 → slice_get ys (a * (n - 1) + b) ≡ slice_get xs (a * n + skipped at b)
   pub above : (k : ℕ) → o * (n - 1) ≤ k → slice_get ys k ≡ slice_get xs k
-
-pub closed_none : {T : Type 0} (xs : List T) (n at : ℕ) → Closed xs xs n at 0
-closed_none xs n at = record { len = refl; moved = λ a b h. absurd (omega arith); above = λ k h. refl }
 
 pub closed_more : {T : Type 0} (xs ys us : List T) (n at o : ℕ) → at < n → Closed xs ys n at o → Tight ys us (o * n) (o * (n - 1)) (n - 1) at → Closed xs us n at (o + 1)
 closed_more {T} xs ys us n at o ha p q = record {

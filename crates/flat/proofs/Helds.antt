@@ -1,24 +1,15 @@
 -- From cells that lie in a form to what memory means under a shape.
 use Rattle.std.proofs.Common.{◌≡◌, ◌*◌, List, length, Some, sym, refl, ap, ◌∙◌}
 use Rattle.std.specs.List.{slice_get}
-use Rattle.matrix.specs.declared.shape.Shape.{Shape}
-use Rattle.matrix.specs.Matrix.{Matrix, inside, turned, filled}
-use Rattle.matrix.specs.Shapes.{Form, form, place, laid, fitted, held, other}
+use Rattle.matrix.specs.Matrix.{Matrix, inside, filled}
+use Rattle.matrix.specs.Shapes.{Form, place, laid, fitted, held}
 use Rattle.matrix.proofs.Whole.{same_inside, inside_below, inside_right}
-use Rattle.matrix.proofs.Held.{held_turned, place_below}
+use Rattle.matrix.proofs.Held.{place_below}
 use Rattle.flat.specs.Moves.{Filled}
-use Rattle.flat.specs.Turns.{Turned}
 
 -- the form stays
 pub stays : {T : Type 0} (F : Matrix T → Matrix T) (f g : Form) (xs ys : List T) → g ≡ fitted (length xs) f → length ys ≡ length xs → laid g ys ≡ F (laid g xs) → held f ys ≡ F (held f xs)
 stays F f g xs ys e l p = ap (λ n. laid (fitted n f) ys) l ∙ ap (λ z. laid z ys) (sym e) ∙ p ∙ ap (λ z. F (laid z xs)) e
-
--- a shape turned reads its memory as the matrix turned
-pub turned_held : {T : Type 0} (s t : Shape) (xs : List T) → Turned s t → held (form t) xs ≡ turned (held (form s) xs)
-turned_held s t xs e = ap (λ f. held f xs) e ∙ held_turned (form s) xs
-
-pub turned_order : (s t : Shape) → Turned s t → t.order ≡ other s.order
-turned_order s t e = ap (λ (f : Form). f.order) e
 
 pub filled_laid : {T : Type 0} (g : Form) (xs ys : List T) (x : T) → Filled xs ys (g.rows * g.cols) x → laid g ys ≡ filled g.rows g.cols x
 filled_laid {T} g xs ys x p =

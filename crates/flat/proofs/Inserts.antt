@@ -1,4 +1,4 @@
--- The passes that put a line in.
+-- A line put in.
 use Rattle.std.proofs.Common.{◌≡◌, ℕ, ◌+◌, ◌-◌, ◌*◌, ◌<◌, ◌≤◌, List, length, Some, sym, refl, ap, ◌∙◌, subst, ⊎_elim, arith}
 use Rattle.std.specs.List.{slice_get}
 use Rattle.std.proofs.lemmas.Bool.{cases_order, cases_eq}
@@ -15,14 +15,6 @@ pub record Opened {T : Type 0} (xs ys line : List T) (outer n at o : ℕ) : Type
   pub left : o ≤ outer
   pub below : (k : ℕ) → k < o * (n + 1) → slice_get ys k ≡ slice_get xs k
   pub moved : (a b : ℕ) → o ≤ a → a < outer → b < n + 1 → slice_get ys (a * (n + 1) + b) ≡ spliced at (slice_get line a) (λ k. slice_get xs (a * n + k)) b
-
-pub opened_none : {T : Type 0} (xs line : List T) (outer n at : ℕ) → Opened xs xs line outer n at outer
-opened_none xs line outer n at = record {
-  len = refl;
-  left = omega arith;
-  below = λ k h. refl;
-  moved = λ a b l g h. absurd (omega arith);
-}
 
 pub opened_more : {T : Type 0} (xs ys zs line : List T) (outer n at o : ℕ) (x : T) → at ≤ n → slice_get line o ≡ Some x → Opened xs ys line outer n at (o + 1) → Spread ys zs (o * n) (o * (n + 1)) n at x → Opened xs zs line outer n at o
 opened_more xs ys zs line outer n at o x ha e p q = record {

@@ -1,13 +1,16 @@
 -- From cells that lie row by row to both orders.
-use Rattle.std.proofs.Common.{◌≡◌, ℕ, ◌+◌, ◌-◌, ◌<◌, ◌≤◌, List, length, sym, refl, ap, ◌∙◌, ⊎_elim, arith}
+use Rattle.std.proofs.Common.{◌≡◌, ℕ, ◌+◌, ◌-◌, ◌*◌, ◌<◌, ◌≤◌, List, length, sym, refl, ap, ◌∙◌, subst, ⊎_elim, mul_comm, arith}
 use Rattle.std.specs.List.{slice_get}
 use Rattle.std.proofs.lemmas.Bool.{cases_lt}
+use Rattle.matrix.specs.declared.shape.Order.{Order}
 use Rattle.matrix.specs.declared.shape.Order.TheVariants.{RowMajor, ColumnMajor}
-use Rattle.matrix.specs.Matrix.{Matrix, turned, insert_row, insert_col, rotate_half}
+use Rattle.matrix.specs.Matrix.{Matrix, turned, insert_row, insert_col, rotate_half, row, col, over}
 use Rattle.matrix.specs.Shapes.{Form, place, laid, rowwise, inserted_form}
 use Rattle.matrix.proofs.Cells.{spliced_same}
 use Rattle.matrix.proofs.Whole.{same_matrix, inside_below}
 use Rattle.matrix.proofs.Held.{inside_turned, laid_turned}
+use Rattle.flat.specs.Moves.{Reversed}
+use Rattle.flat.proofs.Flips.{reversed_all}
 
 laid_row : {T : Type 0} (f : Form) (xs : List T) → f.order ≡ RowMajor → laid f xs ≡ rowwise f.rows f.cols xs
 laid_row f xs o = ap (λ z. laid (record { rows = f.rows; cols = f.cols; order = z }) xs) o
@@ -52,6 +55,19 @@ module _ {T : Type 0} (f : Form) (i : ℕ) (xs ys line : List T) (fits : 0 < f.r
 half_turned : {T : Type 0} (m : Matrix T) → rotate_half m ≡ turned (rotate_half (turned m))
 half_turned m = same_matrix (rotate_half m) (turned (rotate_half (turned m))) refl refl (λ r c. inside_turned m.rows m.cols r c (m.cell (m.rows - 1 - r) (m.cols - 1 - c)))
 
--- a half turn is its own exchange
-pub half_column_major : {T : Type 0} (f : Form) (xs ys : List T) → f.order ≡ ColumnMajor → rowwise f.cols f.rows ys ≡ rotate_half (rowwise f.cols f.rows xs) → laid f ys ≡ rotate_half (laid f xs)
-half_column_major f xs ys o p = in_column_major rotate_half f f xs ys o refl (p ∙ half_turned (rowwise f.cols f.rows xs))
+-- all cells, the last first: a half turn in either order
+pub half_turned_laid : {T : Type 0} (f : Form) (xs ys : List T) → Reversed xs ys 0 (f.rows * f.cols) → laid f ys ≡ rotate_half (laid f xs)
+half_turned_laid {T} f xs ys p = in_order f.order refl
+  where
+    in_order : (o : Order) → f.order ≡ o → laid f ys ≡ rotate_half (laid f xs)
+    in_order RowMajor e = in_row_major rotate_half f f xs ys e refl (reversed_all xs ys f.rows f.cols p)
+    in_order ColumnMajor e = in_column_major rotate_half f f xs ys e refl
+        (reversed_all xs ys f.cols f.rows (subst (Reversed xs ys 0) (mul_comm f.rows f.cols) p) ∙ half_turned (rowwise f.cols f.rows xs))
+
+-- row i, copied out of the cells of either order
+module _ {T : Type 0} (f : Form) (i : ℕ) (xs mem zs : List T) where
+  pub copied_row_major : f.order ≡ RowMajor → zs ≡ over (row i (rowwise f.rows f.cols xs)) mem → zs ≡ over (row i (laid f xs)) mem
+  copied_row_major o p = p ∙ ap (λ m. over (row i m) mem) (sym (laid_row f xs o))
+
+  pub copied_column_major : f.order ≡ ColumnMajor → zs ≡ over (col i (rowwise f.cols f.rows xs)) mem → zs ≡ over (row i (laid f xs)) mem
+  copied_column_major o p = p ∙ ap (λ m. over (row i m) mem) (sym (laid_column f xs o))

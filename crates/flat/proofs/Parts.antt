@@ -1,37 +1,41 @@
--- A write to a part `s[a..a + n]`, by places.
-use Rattle.std.proofs.Common.{◌≡◌, ℕ, ◌+◌, ◌<◌, ◌≤◌, List, length, take, drop, ap, ◌∙◌, arith, rules}
+-- Two parts of a slice that change places, and a front that is filled.
+use Rattle.std.proofs.Common.{◌≡◌, ℕ, ◌+◌, ◌<◌, ◌≤◌, List, [], ◌∷◌, ◌++◌, zero, suc, length, take, drop, Some, subst, ap, ◌∙◌, arith, rules}
 use borrow.Rule.Slice.PartMut.{put_mid}
-use Rattle.std.specs.List.{slice_get}
+use Rattle.std.specs.List.{slice_get, FoldsTo}
 use Rattle.std.proofs.lemmas.List.{places}
 use Rattle.matrix.proofs.Cells.{nth_same, nth_kept}
-use Rattle.flat.specs.Moves.{Copied}
+use Rattle.flat.specs.Moves.{Exchanged, Filled}
 
-module _ {X : Type 0} (a w n : ℕ) (xs ys : List X) (ew : w ≡ n) (el : length ys ≡ n) (fits : a + n ≤ length xs) where
-  pub put_len : length (put_mid a w xs ys) ≡ length xs
-  put_len = search (rules, places)
+-- the two parts of one slice that change places
+pub crossed : {X : Type 0} (xs front back mid last : List X) (p q w n : ℕ) → w ≡ n → p + n ≤ q → q + n ≤ length xs → front ≡ take q xs → back ≡ drop q xs → mid ≡ take n back → last ≡ take w (drop p front) → Exchanged xs (put_mid p w front mid ++ (last ++ drop n back)) p q n
+crossed {X} xs front back mid last p q w n ew hp hq ef eb em el = record {
+  len = all;
+  first = λ k h. nth_same ys xs (p + k) (q + k) (omega (arith, all)) (omega arith) (λ d. search (rules, places));
+  second = λ k h. nth_same ys xs (q + k) (p + k) (omega (arith, all)) (omega arith) (λ d. search (rules, places));
+  below = λ k h. nth_kept xs ys k all (λ d. search (rules, places));
+  amid = λ k h g. nth_kept xs ys k all (λ d. search (rules, places));
+  above = λ k h. nth_kept xs ys k all (λ d. search (rules, places));
+}
+  where
+    ys : List X
+    ys = put_mid p w front mid ++ (last ++ drop n back)
 
-  pub put_at : (k : ℕ) → k < n → slice_get (put_mid a w xs ys) (a + k) ≡ slice_get ys k
-  put_at k h = nth_same _ ys (a + k) k (omega (arith, put_len)) (omega arith) (λ d. search (rules, places))
+    all : length ys ≡ length xs
+    all = search (rules, places)
 
-  pub put_below : (k : ℕ) → k < a → slice_get (put_mid a w xs ys) k ≡ slice_get xs k
-  put_below k h = nth_kept xs (put_mid a w xs ys) k put_len (λ d. search (rules, places))
+-- what `fill_with` leaves, where each call gives x
+module _ {X F : Type 0} (R : F → X → F → Type 0) (f : F) (x : X) (each : (y : X) (h : F) → R f y h → (y ≡ x) × (h ≡ f)) where
+  filled_all : (ys : List X) (last : F) → FoldsTo R f ys last → (k : ℕ) → k < length ys → slice_get ys k ≡ Some x
+  filled_all [] last r k h = absurd (omega arith)
+  filled_all (y ∷ ys) last r zero h = ap Some (each y r.0 r.1).0
+  filled_all (y ∷ ys) last r (suc k) h = filled_all ys last (subst (λ g. FoldsTo R g ys last) (each y r.0 r.1).1 r.2) k (omega arith)
 
-  pub put_above : (k : ℕ) → a + n ≤ k → slice_get (put_mid a w xs ys) k ≡ slice_get xs k
-  put_above k h = nth_kept xs (put_mid a w xs ys) k put_len (λ d. search (rules, places))
-
--- what a part holds
-pub nth_part : {X : Type 0} (xs : List X) (a w n k : ℕ) → w ≡ n → a + n ≤ length xs → k < n → slice_get (take w (drop a xs)) k ≡ slice_get xs (a + k)
-nth_part xs a w n k ew fits h = nth_same _ xs k (a + k) (search (rules, places)) (omega arith) (λ d. search (rules, places))
-
-pub length_part : {X : Type 0} (xs : List X) (a w n : ℕ) → w ≡ n → a + n ≤ length xs → length (take w (drop a xs)) ≡ n
-length_part xs a w n ew fits = search (rules, places)
-
-pub placed : {X : Type 0} (xs ys src : List X) (from to v w n : ℕ) → v ≡ n → w ≡ n → from + n ≤ length src → to + n ≤ length xs → ys ≡ take v (drop from src) → Copied xs (put_mid to w xs ys) src from to n
-placed xs ys src from to v w n ev ew hf ht e =
-    let el : length ys ≡ n = ap length e ∙ length_part src from v n ev hf in
-    record {
-      len = put_len to w n xs ys ew el ht;
-      moved = λ k h. put_at to w n xs ys ew el ht k h ∙ ap (λ zs. slice_get zs k) e ∙ nth_part src from v n k ev hf h;
-      below = λ k h. put_below to w n xs ys ew el ht k h;
-      above = λ k h. put_above to w n xs ys ew el ht k h;
-    }
+  pub filled_front : (xs ys : List X) (n : ℕ) → n ≤ length xs → length ys ≡ n → (last : F) × FoldsTo R f ys last → Filled xs (ys ++ drop n xs) n x
+  filled_front xs ys n h l r = record {
+    len = all;
+    below = λ k b. nth_same (ys ++ drop n xs) ys k k (omega (arith, all)) (omega arith) (λ d. search (rules, places)) ∙ filled_all ys r.0 r.1 k (omega arith);
+    above = λ k b. nth_kept xs (ys ++ drop n xs) k all (λ d. search (rules, places));
+  }
+    where
+      all : length (ys ++ drop n xs) ≡ length xs
+      all = search (rules, places)

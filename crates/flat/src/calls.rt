@@ -1,24 +1,21 @@
 // The calls of a grid on memory and a shape: any memory, any shape, any number gets the fixed answer.
+// kept: memory and shape stand apart, since the struct of both is `Grid`, whose calls come down to these.
+// kept: `kept` and `order` stand on each call, since they speak of what it leaves and not of one value.
 ghost use Rattle.std.specs.Prelude.{◌≡◌, ℕ, ◌*◌, ◌≤◌, length, slice_set};
 ghost use Rattle.std.specs.List.{slice_get};
-ghost use Rattle.cells.specs.Refusals.{answered, Kept, verdict, stands, Back};
-ghost use Rattle.matrix.specs.Matrix.{Matrix, put_cell, filled, insert_row, insert_col, remove_row, remove_col, flip_rows, flip_cols, rotate_half, row, col, over};
-ghost use Rattle.matrix.specs.Shapes.{form, held};
-ghost use Rattle.matrix.specs.Rules.{grid_limits, insert_row_answer, insert_col_answer, remove_row_answer, remove_col_answer, delete_row_answer, delete_col_answer, put_answer};
-ghost use Rattle.flat.specs.Turns.{Turned};
+ghost use Rattle.cells.specs.Refusals.{answered, Kept, verdict, stands};
+ghost use Rattle.matrix.specs.Matrix.{Matrix, put_cell, filled, rotate_half, over};
+ghost use Rattle.matrix.specs.Shapes.{Form, form, fitted, held, laid};
+ghost use Rattle.matrix.specs.Rules.{grid_limits, put_answer};
+ghost use Rattle.matrix.specs.Axes.{along, along_form, inserted, removed, line_of, flipped, insert_along, remove_along, delete_along};
 
 use crate::lines::{copy_line, delete_line, flip_lines, insert_line, place_of, turn_half};
 use crate::moves::fill_first;
 use cells::refusal::Refusal;
+use matrix::axis::Axis;
 use matrix::checks::{insert_check, remove_check};
-use matrix::limits::Limits;
+use matrix::limits::{CELLS, Limits, SIDE};
 use matrix::shape::Shape;
-
-// The most rows and the most columns of a grid.
-const SIDE: usize = 256;
-
-// The most cells of a grid.
-const CELLS: usize = 65536;
 
 // The limits of a grid over n cells of memory.
 pub fn limits_over(n: usize) -> Limits
@@ -30,27 +27,27 @@ pub fn limits_over(n: usize) -> Limits
     }
 }
 
-// What a row call on the shape turned has answered, as the column call's answer.
-fn turned_back(r: Result<Shape, Refusal>) -> Result<Shape, Refusal>
-    ensures back { Back Turned r result }
+// The shape that reads the memory along the axis: its rows are the lines along the axis, as many as the memory has room for.
+fn rows_along<T>(s: &[T], shape: Shape, axis: Axis) -> Shape
+    ensures form { form result ≡ fitted (length s.now) (along_form axis (form shape)) }
+    ensures lies { laid (form result) s.now ≡ along axis (held (form shape) s.now) }
+    ensures room { result.rows * result.cols ≤ length s.now }
 {
-    match r {
-        Ok(new) => Ok(new.turned()),
-        Err(e) => Err(e),
-    }
+    shape.along(axis).fitted(s.len())
 }
 
 // The cell at flat place k, absent past the end.
 pub fn peek<T: Copy>(s: &[T], k: usize) -> Option<T>
     ensures answer { result ≡ slice_get s.now k }
 {
-    if k < s.len() { Some(s[k]) } else { None }
+    s.get(k).copied()
 }
 
 // The cell at flat place k becomes x; nothing past the end.
 pub fn poke<T: Copy>(s: &mut [T], k: usize, x: T)
     ensures effect { s.new ≡ slice_set s.old k x }
 {
+    // kept: an index tested by hand; through `get_mut` the answers of both arms stayed open.
     if k < s.len() {
         s[k] = x;
     }
@@ -89,103 +86,64 @@ pub fn fill<T: Copy>(s: &mut [T], shape: Shape, x: T)
     fill_first(s, shape.rows * shape.cols, x);
 }
 
-pub fn insert_row<T: Copy>(
+// The line becomes line i along the axis.
+pub fn insert<T: Copy>(
     s: &mut [T],
     shape: Shape,
+    axis: Axis,
     i: usize,
     line: &[T],
 ) -> Result<Shape, Refusal>
-    ensures answer { verdict result ≡ insert_row_answer (grid_limits (length s.old)) i line.now (held (form shape) s.old) }
-    ensures effect { held (form (stands result shape)) s.new ≡ answered result (insert_row i line.now (held (form shape) s.old)) (held (form shape) s.old) }
+    ensures answer { verdict result ≡ insert_along (grid_limits (length s.old)) axis i line.now (held (form shape) s.old) }
+    ensures effect { held (form (stands result shape)) s.new ≡ answered result (inserted axis i line.now (held (form shape) s.old)) (held (form shape) s.old) }
     ensures order { (stands result shape).order ≡ shape.order }
     ensures kept { Kept result s.old s.new }
 {
-    let shape = shape.fitted(s.len());
+    let shape = rows_along(s, shape, axis);
     insert_check(limits_over(s.len()), i, line.len(), shape.rows, shape.cols)?;
-    Ok(insert_line(s, shape, i, line))
+    Ok(insert_line(s, shape, i, line).along(axis))
 }
 
-pub fn insert_col<T: Copy>(
+// Line i along the axis goes, into the first cells of the memory.
+pub fn remove<T: Copy>(
     s: &mut [T],
     shape: Shape,
-    i: usize,
-    line: &[T],
-) -> Result<Shape, Refusal>
-    ensures answer { verdict result ≡ insert_col_answer (grid_limits (length s.old)) i line.now (held (form shape) s.old) }
-    ensures effect { held (form (stands result shape)) s.new ≡ answered result (insert_col i line.now (held (form shape) s.old)) (held (form shape) s.old) }
-    ensures order { (stands result shape).order ≡ shape.order }
-    ensures kept { Kept result s.old s.new }
-{
-    turned_back(insert_row(s, shape.turned(), i, line))
-}
-
-// The line goes into the first cells of the memory.
-pub fn remove_row<T: Copy>(
-    s: &mut [T],
-    shape: Shape,
+    axis: Axis,
     i: usize,
     memory: &mut [T],
 ) -> Result<Shape, Refusal>
-    ensures answer { verdict result ≡ remove_row_answer i memory.old (held (form shape) s.old) }
-    ensures effect { held (form (stands result shape)) s.new ≡ answered result (remove_row i (held (form shape) s.old)) (held (form shape) s.old) }
-    ensures line { memory.new ≡ answered result (over (row i (held (form shape) s.old)) memory.old) memory.old }
+    ensures answer { verdict result ≡ remove_along axis i memory.old (held (form shape) s.old) }
+    ensures effect { held (form (stands result shape)) s.new ≡ answered result (removed axis i (held (form shape) s.old)) (held (form shape) s.old) }
+    ensures line { memory.new ≡ answered result (over (line_of axis i (held (form shape) s.old)) memory.old) memory.old }
     ensures order { (stands result shape).order ≡ shape.order }
     ensures kept { Kept result s.old s.new }
 {
-    let shape = shape.fitted(s.len());
+    let shape = rows_along(s, shape, axis);
     remove_check(i, memory.len(), shape.rows, shape.cols)?;
     copy_line(s, shape, i, memory);
-    Ok(delete_line(s, shape, i))
+    Ok(delete_line(s, shape, i).along(axis))
 }
 
-pub fn remove_col<T: Copy>(
-    s: &mut [T],
-    shape: Shape,
-    i: usize,
-    memory: &mut [T],
-) -> Result<Shape, Refusal>
-    ensures answer { verdict result ≡ remove_col_answer i memory.old (held (form shape) s.old) }
-    ensures effect { held (form (stands result shape)) s.new ≡ answered result (remove_col i (held (form shape) s.old)) (held (form shape) s.old) }
-    ensures line { memory.new ≡ answered result (over (col i (held (form shape) s.old)) memory.old) memory.old }
+// Line i along the axis goes, and nobody takes it.
+pub fn delete<T: Copy>(s: &mut [T], shape: Shape, axis: Axis, i: usize) -> Result<Shape, Refusal>
+    ensures answer { verdict result ≡ delete_along axis i (held (form shape) s.old) }
+    ensures effect { held (form (stands result shape)) s.new ≡ answered result (removed axis i (held (form shape) s.old)) (held (form shape) s.old) }
     ensures order { (stands result shape).order ≡ shape.order }
     ensures kept { Kept result s.old s.new }
 {
-    turned_back(remove_row(s, shape.turned(), i, memory))
-}
-
-pub fn delete_row<T: Copy>(s: &mut [T], shape: Shape, i: usize) -> Result<Shape, Refusal>
-    ensures answer { verdict result ≡ delete_row_answer i (held (form shape) s.old) }
-    ensures effect { held (form (stands result shape)) s.new ≡ answered result (remove_row i (held (form shape) s.old)) (held (form shape) s.old) }
-    ensures order { (stands result shape).order ≡ shape.order }
-    ensures kept { Kept result s.old s.new }
-{
-    let shape = shape.fitted(s.len());
+    let shape = rows_along(s, shape, axis);
     if shape.rows <= i {
         return Err(Refusal::Place);
     }
-    Ok(delete_line(s, shape, i))
+    Ok(delete_line(s, shape, i).along(axis))
 }
 
-pub fn delete_col<T: Copy>(s: &mut [T], shape: Shape, i: usize) -> Result<Shape, Refusal>
-    ensures answer { verdict result ≡ delete_col_answer i (held (form shape) s.old) }
-    ensures effect { held (form (stands result shape)) s.new ≡ answered result (remove_col i (held (form shape) s.old)) (held (form shape) s.old) }
-    ensures order { (stands result shape).order ≡ shape.order }
-    ensures kept { Kept result s.old s.new }
+// The last line along the axis comes first.
+pub fn flip<T: Copy>(s: &mut [T], shape: Shape, axis: Axis)
+    ensures effect { held (form shape) s.new ≡ flipped axis (held (form shape) s.old) }
 {
-    turned_back(delete_row(s, shape.turned(), i))
-}
-
-pub fn flip_rows<T: Copy>(s: &mut [T], shape: Shape)
-    ensures effect { held (form shape) s.new ≡ flip_rows (held (form shape) s.old) }
-{
-    let shape = shape.fitted(s.len());
+    let shape = rows_along(s, shape, axis);
     flip_lines(s, shape);
-}
-
-pub fn flip_cols<T: Copy>(s: &mut [T], shape: Shape)
-    ensures effect { held (form shape) s.new ≡ flip_cols (held (form shape) s.old) }
-{
-    flip_rows(s, shape.turned());
 }
 
 pub fn rotate_half<T: Copy>(s: &mut [T], shape: Shape)

@@ -4,4 +4,3 @@
 pub mod calls;
 mod lines;
 mod moves;
-mod passes;

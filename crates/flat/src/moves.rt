@@ -3,6 +3,7 @@ ghost use Rattle.std.specs.Prelude.{◌≡◌, ℕ, ◌+◌, ◌<◌, ◌≤◌,
 ghost use Rattle.flat.specs.Moves.{Copied, Spread, Tight, Exchanged, Reversed, Filled};
 
 // Moves n cells within s; the two stretches may overlap.
+// kept: `from` and `to` are places in one slice, since two slices lent from it could not overlap
 pub(crate) fn slide<T: Copy>(s: &mut [T], from: usize, to: usize, n: usize)
     requires from { from + n ≤ length s.old }
     requires to { to + n ≤ length s.old }
@@ -25,24 +26,17 @@ pub(crate) fn fill_first<T: Copy>(s: &mut [T], n: usize, x: T)
     requires room { n ≤ length s.old }
     ensures effect { Filled s.old s.new n x }
 {
-    for k in 0..n {
-        s[k] = x;
-    }
+    s[..n].fill_with(|| x);
 }
 
-// Exchanges the n cells at p with those at q, further on. Both are read before either is written, which the compiler turns
-// into wide moves.
+// Exchanges the n cells at p with those at q, further on.
 pub(crate) fn exchange<T: Copy>(s: &mut [T], p: usize, q: usize, n: usize)
     requires apart { p + n ≤ q }
     requires room { q + n ≤ length s.old }
     ensures effect { Exchanged s.old s.new p q n }
 {
-    for k in 0..n {
-        let x = s[p + k];
-        let y = s[q + k];
-        s[p + k] = y;
-        s[q + k] = x;
-    }
+    let (front, back) = s.split_at_mut(q);
+    front[p..p + n].swap_with_slice(&mut back[..n]);
 }
 
 // Turns round the n cells at p.
@@ -50,12 +44,7 @@ pub(crate) fn reverse<T: Copy>(s: &mut [T], p: usize, n: usize)
     requires room { p + n ≤ length s.old }
     ensures effect { Reversed s.old s.new p n }
 {
-    for k in 0..n / 2 {
-        let x = s[p + k];
-        let y = s[p + (n - 1 - k)];
-        s[p + k] = y;
-        s[p + (n - 1 - k)] = x;
-    }
+    s[p..p + n].reverse();
 }
 
 // Moves the n cells at `from` up to `to`, a place apart at `at`, where x goes.

@@ -6,9 +6,9 @@ use Rattle.std.proofs.lemmas.Bool.{cases_lt, cases_eq}
 use Rattle.cells.specs.declared.refusal.Refusal.{Refusal}
 use Rattle.cells.specs.Refusals.{answered}
 use Rattle.matrix.specs.declared.shape.Order.{Order}
-use Rattle.matrix.specs.Matrix.{Matrix, empty, filled, over}
+use Rattle.matrix.specs.Matrix.{Matrix, empty, filled}
 use Rattle.matrix.specs.declared.shape.Shape.{Shape}
-use Rattle.matrix.specs.Shapes.{Form, form, place, laid, held, vacant, flat}
+use Rattle.matrix.specs.Shapes.{Form, form, place, laid, held, vacant}
 use Rattle.matrix.specs.Rules.{grid_limits, from_vec_answer, from_vec, new_answer, init}
 use Rattle.matrix.proofs.Whole.{same_inside, inside_below, inside_right}
 use Rattle.matrix.proofs.Held.{held_in}
@@ -115,6 +115,3 @@ vec_count {T} o n cols xs = go (from_vec_answer (length xs) n cols) refl
             let ne : n ≡ 0 → ⊥ = λ e. grind (arith, nat_tests) in
             omega (arith, div-add-mod' n cols, (met (length xs) n cols ne a).whole)
     go (Err d) a = refl
-
-pub shown_again : {T : Type 0} (o p : Order) (m n : Matrix T) (xs : List T) → o ≡ p → m ≡ n → xs ≡ over (flat o m) xs → xs ≡ over (flat p n) xs
-shown_again o p m n xs eo em e = e ∙ ap (λ q. over (flat q m) xs) eo ∙ ap (λ q. over (flat p q) xs) em

@@ -11,6 +11,7 @@ pub mod turns;
 // one whose memory has fewer. Flat cells beyond R × C are free.
 #[derive(Drop)]
 pub struct Grid<'a, T> {
+    // kept: memory is lent and never grows, so a slice and no Vec.
     cells: &'a mut [T],
     shape: Shape,
 }

@@ -1,13 +1,13 @@
 // Two keeps as one: the first is filled before the second.
-ghost use Rattle.std.specs.Prelude.{◌≡◌, ℕ, ◌+◌, ◌<◌, ◌≤◌, min, [], ◌++◌, length};
+ghost use Rattle.std.specs.Prelude.{◌≡◌, ◌+◌, []};
+ghost use Rattle.matrix.specs.Rules.{cell_limit};
 ghost use Rattle.matrix.proofs.Stores.{capped, joined_within};
-ghost use Rattle.keeps.specs.Kept.{Store, holding};
+ghost use Rattle.keeps.specs.Kept.{holding};
+ghost use Rattle.keeps.specs.Joined.{joined, Filled};
 
-use crate::keep::Keep;
+use crate::keep::{Keep, emptied};
 use cells::refusal::Refusal;
-
-// The most cells of a keep.
-const CELLS: usize = 65536;
+use matrix::limits::CELLS;
 
 // M is the sum of both, or 65,536 if less. It is in order when its parts are, its second has cells only while its first is
 // full, and it has at most M.
@@ -24,24 +24,23 @@ impl<A: Keep, B: Keep<Cell = A::Cell>> JoinedKeep<A, B> {
         ensures second { B.Keep.store result.second ≡ holding [] (B.Keep.store second) }
         ensures ordered { A.Keep.ordered result.first × B.Keep.ordered result.second }
     {
-        let mut first = first;
-        let mut second = second;
-        first.clear();
-        second.clear();
-        JoinedKeep { first, second }
+        JoinedKeep {
+            first: emptied(first),
+            second: emptied(second),
+        }
     }
 }
 
 impl<A: Keep, B: Keep<Cell = A::Cell>> Keep for JoinedKeep<A, B> {
     type Cell = A::Cell;
 
-    ghost store = { λ k. record { cells = (A.Keep.store k.first).cells ++ (B.Keep.store k.second).cells; most = min ((A.Keep.store k.first).most + (B.Keep.store k.second).most) 65536 } };
+    ghost store = { λ k. joined (A.Keep.store k.first) (B.Keep.store k.second) };
 
-    ghost ordered = { λ k. A.Keep.ordered k.first × B.Keep.ordered k.second × (length (A.Keep.store k.first).cells < (A.Keep.store k.first).most → length (B.Keep.store k.second).cells ≡ 0) × (length (A.Keep.store k.first).cells + length (B.Keep.store k.second).cells ≤ min ((A.Keep.store k.first).most + (B.Keep.store k.second).most) 65536) };
+    ghost ordered = { λ k. A.Keep.ordered k.first × B.Keep.ordered k.second × Filled (A.Keep.store k.first) (B.Keep.store k.second) };
 
-    ghost small = { λ k. record { most = capped ((A.Keep.store k.first).most + (B.Keep.store k.second).most) 65536 } };
+    ghost small = { λ k. record { most = capped ((A.Keep.store k.first).most + (B.Keep.store k.second).most) cell_limit } };
 
-    ghost within = { λ k o. record { cells = joined_within (A.Keep.store k.first).cells (B.Keep.store k.second).cells (min ((A.Keep.store k.first).most + (B.Keep.store k.second).most) 65536) o.3 } };
+    ghost within = { λ k o. record { cells = joined_within (A.Keep.store k.first).cells (B.Keep.store k.second).cells (joined (A.Keep.store k.first) (B.Keep.store k.second)).most o.2.fits } };
 
     fn limit(&self) -> usize {
         self.first
@@ -51,7 +50,7 @@ impl<A: Keep, B: Keep<Cell = A::Cell>> Keep for JoinedKeep<A, B> {
     }
 
     fn count(&self) -> usize {
-        self.first.count().wrapping_add(self.second.count())
+        self.first.count().saturating_add(self.second.count())
     }
 
     fn push(&mut self, x: A::Cell) -> Result<(), Refusal> {

@@ -14,10 +14,6 @@ pub trait Keep {
 
     ghost ordered: { Self → Type 0 };
 
-    ghost small: { (k : Self) → Small (store k) };
-
-    ghost within: { (k : Self) → ordered k → Within (store k) };
-
     fn limit(&self) -> usize
         ensures answer { result ≡ (store self.now).most };
 
@@ -39,4 +35,18 @@ pub trait Keep {
     fn clear(&mut self)
         ensures effect { store self.new ≡ holding [] (store self.old) }
         ensures ordered { ordered self.new };
+
+    // What every keep owes, and what it owes in order.
+    ghost small: { (k : Self) → Small (store k) };
+
+    ghost within: { (k : Self) → ordered k → Within (store k) };
+}
+
+// The keep without a cell, and in order.
+pub fn emptied<K: Keep>(mut keep: K) -> K
+    ensures effect { K.store result ≡ holding [] (K.store keep) }
+    ensures ordered { K.ordered result }
+{
+    keep.clear();
+    keep
 }

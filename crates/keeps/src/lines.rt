@@ -17,12 +17,10 @@ pub fn push_line<K: Keep>(keep: &mut K, line: &[K::Cell])
 pub fn pull_line<K: Keep>(keep: &mut K, memory: &mut [K::Cell])
     ensures effect { K.ordered keep.old → (xs ys : List K.Cell) → (K.store keep.old).cells ≡ xs ++ ys → length ys ≡ length memory.old → K.ordered keep.new × (K.store keep.new ≡ holding xs (K.store keep.old)) × (memory.new ≡ ys) }
 {
-    let mut n = memory.len();
-    while n > 0 {
-        n -= 1;
-        match keep.take() {
-            Some(x) => memory[n] = x,
-            None => {}
+    for place in memory.iter_mut() {
+        if let Some(x) = keep.take() {
+            *place = x;
         }
     }
+    memory.reverse();
 }

@@ -5,6 +5,7 @@ pub mod calls;
 // stands for none.
 #[derive(Drop)]
 pub struct StackKeep<'a, T> {
+    // kept: no heap, so a stack is lent memory and how much of it is used
     cells: &'a mut [T],
     used: usize,
 }

@@ -1,1 +1,2 @@
 mod Misspelt
+mod Calls

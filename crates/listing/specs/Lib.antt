@@ -1,1 +1,5 @@
 pub mod Spellings
+pub mod Names
+pub mod Texts
+pub mod Calls
+pub mod Lines

@@ -16,6 +16,7 @@ pub trait Written: Kind + Clone {
     ghost spells: { List ℕ → Self → Type 0 };
 
     // The cell that a word spells.
+    // kept: std's `FromStr` of a cell could stand only in `cells`, which knows no list
     fn read(word: &str) -> Option<Self>
         ensures cell { Read spells word.now result };
 
@@ -36,61 +37,30 @@ impl<T: Written> Display for Spelt<T> {
     }
 }
 
-fn read_mark(word: &str) -> Option<Mark>
-    ensures mark { Read Marks word.now result }
-{
-    match word {
-        "DNS" => Some(Mark::DidNotStart),
-        "DNF" => Some(Mark::DidNotFinish),
-        "DSQ" => Some(Mark::Disqualified),
-        "OFF" => Some(Mark::OffCourse),
-        _ => None,
-    }
-}
-
-fn read_time(word: &str) -> Option<u32>
-    ensures time { Read (Number 32) word.now result }
-{
-    match number(word) {
-        Some(time) => u32::try_from(time).ok(),
-        None => None,
-    }
-}
-
-fn mark_word(mark: Mark) -> &'static str
-    ensures answer { result.now ≡ mark_word mark }
-{
-    match mark {
-        Mark::DidNotStart => "DNS",
-        Mark::DidNotFinish => "DNF",
-        Mark::Disqualified => "DSQ",
-        Mark::OffCourse => "OFF",
-    }
-}
-
 impl Written for Passage {
     ghost spelling = { passage_word };
 
     ghost spells = { Passes };
 
     fn read(word: &str) -> Option<Passage> {
-        if word == "-" {
-            return Some(Passage::Blank);
-        }
-        if let Some(mark) = read_mark(word) {
-            return Some(Passage::Mark(mark));
-        }
-        match read_time(word) {
-            Some(time) => Some(Passage::Time(time)),
-            None => None,
-        }
+        Some(match word {
+            "-" => Passage::Blank,
+            "DNS" => Passage::Mark(Mark::DidNotStart),
+            "DNF" => Passage::Mark(Mark::DidNotFinish),
+            "DSQ" => Passage::Mark(Mark::Disqualified),
+            "OFF" => Passage::Mark(Mark::OffCourse),
+            _ => Passage::Time(u32::try_from(number(word)?).ok()?),
+        })
     }
 
     fn show<W: fmt::Write>(&self, f: &mut fmt::Formatter<W>) -> fmt::Result {
         match *self {
             Passage::Blank => f.write_str("-"),
             Passage::Time(time) => write!(f, "{time}"),
-            Passage::Mark(mark) => f.write_str(mark_word(mark)),
+            Passage::Mark(Mark::DidNotStart) => f.write_str("DNS"),
+            Passage::Mark(Mark::DidNotFinish) => f.write_str("DNF"),
+            Passage::Mark(Mark::Disqualified) => f.write_str("DSQ"),
+            Passage::Mark(Mark::OffCourse) => f.write_str("OFF"),
         }
     }
 }

@@ -7,7 +7,7 @@ use Rattle.std.proofs.lemmas.Bool.{cases_lt, cases_eq}
 use Rattle.matrix.specs.declared.shape.Order.{Order}
 use Rattle.matrix.specs.declared.shape.Order.TheVariants.{RowMajor, ColumnMajor}
 use Rattle.matrix.specs.declared.shape.Shape.{Shape}
-use Rattle.matrix.specs.Matrix.{Matrix, Shaped, inside, empty, put_cell, turned}
+use Rattle.matrix.specs.Matrix.{Matrix, Shaped, inside, put_cell, turned}
 use Rattle.matrix.specs.Shapes.{Form, form, place, laid, other, turned_form, vacant, fitted, held}
 use Rattle.matrix.specs.declared.limits.Limits.{Limits}
 use Rattle.matrix.specs.Rules.{Within, grid_limits}
@@ -31,9 +31,6 @@ laid_turned f xs = same_matrix (laid (turned_form f) xs) (turned (laid f xs)) re
 pub order_back : (o : Order) → other (other o) ≡ o
 order_back RowMajor = refl
 order_back ColumnMajor = refl
-
-pub form_back : (f : Form) → turned_form (turned_form f) ≡ f
-form_back f = λ i. record { rows = f.rows; cols = f.cols; order = order_back f.order i }
 
 -- a form that n cells are enough for
 pub fitted_in : (n : ℕ) (f : Form) → f.rows * f.cols ≤ n → fitted n f ≡ f
@@ -88,15 +85,6 @@ laid_shaped f xs nr nc fits = record {
       let l : k < length xs = omega (arith, place_below f.order f.rows f.cols r c hr hc) in
       let d = present xs k l in
       (get_or xs k d, inside_in f.rows f.cols r c (slice_get xs k) hr hc ∙ slice_get-get_or xs k d l);
-}
-
-pub empty_shaped : {T : Type 0} → Shaped (empty {T = T})
-empty_shaped = record {
-  no_rows = λ _. refl;
-  no_cols = λ _. refl;
-  below = λ r c l. refl;
-  right = λ r c l. refl;
-  full = λ r c h k. absurd (omega arith);
 }
 
 pub shaped_turned : {T : Type 0} {m : Matrix T} → Shaped m → Shaped (turned m)

@@ -3,6 +3,7 @@ pub mod Cells
 pub mod Whole
 pub mod Undo
 pub mod Held
+pub mod Along
 pub mod Flats
 pub mod Gather
 pub mod Cross

@@ -1,6 +1,5 @@
 -- Lines of equal length, one after the other: where each begins and ends.
-use Rattle.std.proofs.Common.{◌≡◌, ℕ, ◌+◌, ◌-◌, ◌*◌, ◌/◌, ◌<◌, ◌≤◌, ap, ◌∙◌, ⊎_elim, mul-le-mul_right, add-mul, mul-le-mul, one-mul, mul-one, mul-add, arith}
-use Rattle.std.proofs.lemmas.Nat.{div-add-mod', mod_below}
+use Rattle.std.proofs.Common.{◌≡◌, ℕ, ◌+◌, ◌-◌, ◌*◌, ◌<◌, ◌≤◌, ap, ◌∙◌, ⊎_elim, mul-le-mul_right, add-mul, mul-le-mul, one-mul, mul-one, mul-add, arith}
 use Rattle.std.proofs.lemmas.Bool.{cases_order}
 
 -- a line more
@@ -34,10 +33,3 @@ line_apart w a b c d hb hd e = ⊎_elim
 -- sides within 256 make at most 65,536 cells
 pub sides_within : (R C : ℕ) → R ≤ 256 → C ≤ 256 → R * C ≤ 65536
 sides_within R C h k = let p : R * C ≤ 256 * 256 = mul-le-mul h k in omega arith
-
--- how many lines of n cells m cells hold
-pub too_many : (m n c : ℕ) → 0 < n → m / n ≤ c → m < (c + 1) * n
-too_many m n c h k = omega (arith, div-add-mod' m n, mod_below m n h, line_more c n, line_le (m / n) c n k)
-
-pub few_enough : (m n c : ℕ) → c < m / n → (c + 1) * n ≤ m
-few_enough m n c k = omega (arith, div-add-mod' m n, line_ends c (m / n) n k, line_more c n)

@@ -79,9 +79,6 @@ whole_insert_col i line m hi fits w = whole_turned (whole_insert_row i line (tur
 pub across_stays : (lines across : ℕ) → (lines ≡ 1 → ⊥) → left_across lines across ≡ across
 across_stays lines across h = grind (arith, nat_tests)
 
-pub across_goes : (lines across : ℕ) → lines ≡ 1 → left_across lines across ≡ 0
-across_goes lines across h = grind (arith, nat_tests)
-
 pub whole_remove_row : {T : Type 0} (i : ℕ) (m : Matrix T) → i < m.rows → Whole m → Whole (remove_row i m)
 whole_remove_row {T} i m hi w = record {
   below = λ r c h. w.below (skipped i r) c (omega (arith, skipped_above i r (omega arith)));

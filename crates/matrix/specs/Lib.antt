@@ -1,6 +1,7 @@
 pub mod Matrix
 pub mod Shapes
 pub mod Rules
+pub mod Axes
 pub mod Runs
 pub mod Laws
 pub mod Cases

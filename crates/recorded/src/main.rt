@@ -2,22 +2,20 @@
 #![tactic(auto)]
 
 use crate::entry::Entry;
+use matrix::limits::CELLS;
 use std::alloc::Global;
 use std::io;
 
 mod entry;
+mod reading;
 mod replay;
-
-// The cells of memory that each grid stands over.
-const CELLS: usize = 65536;
+mod unread;
 
 fn entries(heap: Global, text: &str) -> anyhow::Result<Vec<Entry>> {
     let mut all = Vec::new(heap);
-    let mut number: usize = 0;
-    for line in text.lines() {
-        number = number.wrapping_add(1);
-        if !line.starts_with("#") {
-            all.push(Entry::read(heap, number, line)?)?;
+    for (i, line) in text.lines().enumerate() {
+        if !line.starts_with('#') {
+            all.push(Entry::read(heap, i + 1, line)?)?;
         }
     }
     Ok(all)
@@ -27,16 +25,17 @@ fn run(rt: &HostRuntime) -> anyhow::Result<()> {
     let heap = rt.alloc();
     let text = io::read_to_string(heap, rt.stdin())?;
     let all = entries(heap, text.as_str())?;
+    // Each grid stands over this memory.
     let mut memory = vec![in heap; 0u32; CELLS]?;
     let tally = replay::replayed(heap, memory.as_mut_slice(), all.as_slice())?;
     for d in tally.differ.iter() {
-        let number = d.number;
-        let part = d.part;
-        println!(rt; "differs: {number} in {part}")?;
+        println!(rt; "differs: {} in {}", d.number, d.part)?;
     }
-    let calls = tally.calls;
-    let count = tally.differ.len();
-    println!(rt; "{calls} calls replayed, {count} differ")?;
+    println!(rt;
+        "{} calls replayed, {} differ",
+        tally.calls,
+        tally.differ.len()
+    )?;
     Ok(())
 }
 

@@ -1,22 +1,29 @@
 // Making the recorded calls on a grid, and comparing answers and grids with the original's.
-use crate::entry::{Answer, Call, Entry};
+use crate::entry::{After, Answer, Call, Entry, Making, Panicked, Step};
 use cells::refusal::Refusal;
 use grid::grid::Grid;
 use grid::grid::making::{from_vec_check, new_check};
+use matrix::axis::Axis;
+use matrix::limits::SIDE;
 use matrix::shape::Order;
 use std::alloc::{AllocError, Global};
+use std::fmt;
 
 // What stands in the memory for a removed line before the call.
 const UNTOUCHED: u32 = u32::MAX;
 
-// The longest line.
-const SIDE: usize = 256;
+#[derive(Clone, Copy)]
+pub enum Part {
+    Answer,
+    Grid,
+    Flat,
+}
 
 // A line of the list at which the two differ, and in what.
 #[derive(Clone, Copy)]
 pub struct Difference {
     pub number: usize,
-    pub part: &'static str,
+    pub part: Part,
 }
 
 // The calls made so far, and where they differed; a call is noted once.
@@ -26,26 +33,62 @@ pub struct Tally {
     pub differ: Vec<Difference>,
 }
 
+impl fmt::Display for Part {
+    fn fmt<W: fmt::Write>(&self, f: &mut fmt::Formatter<W>) -> fmt::Result {
+        f.write_str(match self {
+            Part::Answer => "the answer",
+            Part::Grid => "the grid after it",
+            Part::Flat => "the flat cells",
+        })
+    }
+}
+
 impl Tally {
-    fn count(&mut self, e: &Entry, agreed: bool, stood: bool) -> Result<(), AllocError> {
+    // One more call, and in what it differed, if in anything.
+    fn count(&mut self, number: usize, part: Option<Part>) -> Result<(), AllocError> {
         self.calls = self.calls.wrapping_add(1);
-        if !agreed {
-            self.note(e.number, "the answer")?;
+        match part {
+            Some(part) => self.note(number, part),
+            None => Ok(()),
         }
-        if !stood {
-            self.note(e.number, "the grid after it")?;
+    }
+
+    fn note(&mut self, number: usize, part: Part) -> Result<(), AllocError> {
+        if self.differ.last().is_none_or(|last| last.number != number) {
+            self.differ.push(Difference { number, part })?;
         }
         Ok(())
     }
+}
 
-    fn note(&mut self, number: usize, part: &'static str) -> Result<(), AllocError> {
-        if let Some(last) = self.differ.last() {
-            if last.number == number {
-                return Ok(());
-            }
-        }
-        self.differ.push(Difference { number, part })?;
-        Ok(())
+// What a call on a grid answers, as the list has it.
+impl From<()> for Answer {
+    fn from(_done: ()) -> Answer {
+        Answer::Done(Ok(()))
+    }
+}
+
+impl From<Result<(), Refusal>> for Answer {
+    fn from(r: Result<(), Refusal>) -> Answer {
+        Answer::Done(r.map_err(|_| Panicked))
+    }
+}
+
+impl From<Option<u32>> for Answer {
+    fn from(cell: Option<u32>) -> Answer {
+        Answer::Cell(cell)
+    }
+}
+
+impl From<bool> for Answer {
+    fn from(yes: bool) -> Answer {
+        Answer::Said(yes)
+    }
+}
+
+impl From<(usize, usize)> for Answer {
+    fn from(size: (usize, usize)) -> Answer {
+        Answer::Size(size.0, size.1)
     }
 }
 
@@ -55,215 +98,146 @@ pub fn replayed(heap: Global, memory: &mut [u32], all: &[Entry]) -> Result<Tally
         calls: 0,
         differ: Vec::new(heap),
     };
-    for i in 0..all.len() {
-        if all[i].begins() {
-            run_block(memory, &all[i..], &mut tally)?;
-        }
+    for block in all.chunk_by(|_, next| !next.begins()) {
+        run_block(heap, memory, block, &mut tally)?;
     }
     Ok(tally)
 }
 
-// Makes the first entry's grid over the memory and its calls, up to the next that begins a grid.
-fn run_block(memory: &mut [u32], block: &[Entry], tally: &mut Tally) -> Result<(), AllocError> {
+// Makes the grid that the first entry begins, over the memory, and the calls on it. Calls before any grid are passed over.
+fn run_block(
+    heap: Global,
+    memory: &mut [u32],
+    block: &[Entry],
+    tally: &mut Tally,
+) -> Result<(), AllocError> {
     let [first, rest @ ..] = block else {
         return Ok(());
     };
-    let agreed = done(may_make(memory.len(), first), first);
-    let mut grid = make(memory, first);
-    tally.count(first, agreed, stands(&grid, first))?;
-    let mut last = first;
+    let Step::Begin(order, making) = &first.step else {
+        return Ok(());
+    };
+    let answer = Answer::from(may_make(memory.len(), making));
+    let mut grid = make(memory, *order, making);
+    tally.count(first.number, compared(&grid, &answer, first))?;
     for e in rest {
-        if e.begins() {
-            break;
+        if let Step::Call(call) = &e.step {
+            let answer = made(heap, &mut grid, call)?;
+            tally.count(e.number, compared(&grid, &answer, e))?;
         }
-        let agreed = agrees(&mut grid, e);
-        tally.count(e, agreed, stands(&grid, e))?;
-        last = e;
     }
+    let last = rest.last().unwrap_or(first);
     let (cells, n) = grid.into_vec();
-    if n != last.flat.len() || !opens(cells, last.flat.as_slice()) {
-        tally.note(last.number, "the flat cells")?;
+    if n != last.after.flat.len() || !cells.starts_with(last.after.flat.as_slice()) {
+        tally.note(last.number, Part::Flat)?;
     }
     Ok(())
 }
 
-fn may_make(memory: usize, e: &Entry) -> Result<(), Refusal> {
-    match e.call {
-        Call::FromVec => from_vec_check(memory, e.line.len(), e.argument(0)),
-        _ => new_check(memory, e.argument(0), e.argument(1)),
+fn may_make(memory: usize, making: &Making) -> Result<(), Refusal> {
+    match making {
+        Making::New(rows, cols) => new_check(memory, *rows, *cols),
+        Making::Init(rows, cols, _) => new_check(memory, *rows, *cols),
+        Making::FromVec(cols, cells) => from_vec_check(memory, cells.len(), *cols),
     }
 }
 
-// The grid of the call. The blank of these cells is 0, and no `new` entry has a third argument, so `new` is `init` there too.
-fn make<'a>(memory: &'a mut [u32], e: &Entry) -> Grid<'a, u32> {
-    match e.call {
-        Call::New | Call::Init => {
-            Grid::init_with_order(memory, e.argument(0), e.argument(1), e.order, e.cell(2))
-        }
-        _ => {
-            lay(memory, e.line.as_slice());
-            Grid::from_vec_with_order(memory, e.line.len(), e.argument(0), e.order)
-        }
-    }
-}
-
-// Writes the cells to the start of the memory.
-fn lay(memory: &mut [u32], line: &[u32]) {
-    for i in 0..line.len() {
-        if i < memory.len() {
-            memory[i] = line[i];
-        }
-    }
-}
-
-// Makes the call, and says whether the answer is the original's.
-fn agrees(grid: &mut Grid<'_, u32>, e: &Entry) -> bool {
-    let i = e.argument(0);
-    let j = e.argument(1);
-    let line = e.line.as_slice();
-    match e.call {
-        Call::InsertRow => done(grid.insert_row(i, line), e),
-        Call::InsertCol => done(grid.insert_col(i, line), e),
-        Call::PushRow => done(grid.push_row(line), e),
-        Call::PushCol => done(grid.push_col(line), e),
-        Call::Put => done(grid.put(i, j, e.cell(2)), e),
-        Call::DeleteRow => told(grid.delete_row(i), e),
-        Call::DeleteCol => told(grid.delete_col(i), e),
-        Call::IsEmpty => told(grid.is_empty(), e),
-        Call::Get => got(grid.get(i, j), e),
-        Call::RemoveRow | Call::RemoveCol | Call::PopRow | Call::PopCol => takes(grid, e),
-        _ => turns(grid, e),
-    }
-}
-
-// The same for the calls that hand out a line.
-fn takes(grid: &mut Grid<'_, u32>, e: &Entry) -> bool {
-    let mut memory = [UNTOUCHED; SIDE];
-    let i = e.argument(0);
-    let (rows, cols) = grid.size();
-    let (answer, n) = match e.call {
-        Call::RemoveRow => (grid.remove_row(i, &mut memory), cols),
-        Call::RemoveCol => (grid.remove_col(i, &mut memory), rows),
-        Call::PopRow => (grid.pop_row(&mut memory), cols),
-        _ => (grid.pop_col(&mut memory), rows),
-    };
-    let given = e.given.as_slice();
-    match answer {
-        Ok(()) => e.answer == Answer::Line && given.len() == n && only(&memory, given),
-        Err(_) => e.answer == Answer::Nothing && only(&memory, &[]),
-    }
-}
-
-// The same for the calls that take no argument and refuse nothing.
-fn turns(grid: &mut Grid<'_, u32>, e: &Entry) -> bool {
-    match e.call {
-        Call::Transpose => grid.transpose(),
-        Call::FlipRows => grid.flip_rows(),
-        Call::FlipCols => grid.flip_cols(),
-        Call::RotateLeft => grid.rotate_left(),
-        Call::RotateRight => grid.rotate_right(),
-        Call::RotateHalf => grid.rotate_half(),
-        _ => return sized(grid, e),
-    }
-    e.answer == Answer::Done
-}
-
-fn sized(grid: &Grid<'_, u32>, e: &Entry) -> bool {
-    let (rows, cols) = grid.size();
-    match e.given.as_slice() {
-        [r, c] => e.answer == Answer::Size && *r as usize == rows && *c as usize == cols,
-        _ => false,
-    }
-}
-
-fn done(r: Result<(), Refusal>, e: &Entry) -> bool {
-    match r {
-        Ok(()) => e.answer == Answer::Done,
-        Err(_) => e.answer == Answer::Panic,
-    }
-}
-
-fn told(yes: bool, e: &Entry) -> bool {
-    if yes {
-        e.answer == Answer::True
-    } else {
-        e.answer == Answer::False
-    }
-}
-
-fn got(cell: Option<u32>, e: &Entry) -> bool {
-    match cell {
-        Some(x) => e.answer == Answer::Cell
-            && e.given.len() == 1
-            && opens(&[x], e.given.as_slice()),
-        None => e.answer == Answer::Absent,
-    }
-}
-
-// Whether the memory begins with the cells.
-fn opens(memory: &[u32], line: &[u32]) -> bool {
-    for (i, x) in line.iter().enumerate() {
-        match memory.get(i) {
-            Some(y) => {
-                if *x != *y {
-                    return false;
-                }
+// The grid of the call. The blank of these cells is 0.
+fn make<'a>(memory: &'a mut [u32], order: Order, making: &Making) -> Grid<'a, u32> {
+    match making {
+        Making::New(rows, cols) => Grid::init_with_order(memory, *rows, *cols, order, 0),
+        Making::Init(rows, cols, x) => Grid::init_with_order(memory, *rows, *cols, order, *x),
+        Making::FromVec(cols, cells) => {
+            let n = cells.len();
+            if n <= memory.len() {
+                memory[..n].copy_from_slice(cells.as_slice());
             }
-            None => return false,
+            Grid::from_vec_with_order(memory, n, *cols, order)
         }
     }
-    true
 }
 
-// Whether the memory begins with the cells, and is untouched beyond them.
-fn only(memory: &[u32], line: &[u32]) -> bool {
-    for (i, x) in memory.iter().enumerate() {
-        if line.len() <= i && *x != UNTOUCHED {
-            return false;
-        }
+// Makes the call, and says what it answered.
+// kept: rows and columns each have their call, since the list names the original's calls and these have the same names.
+fn made(heap: Global, grid: &mut Grid<'_, u32>, call: &Call) -> Result<Answer, AllocError> {
+    let (rows, cols) = grid.size();
+    Ok(match call {
+        Call::Insert(Axis::Row, i, line) => grid.insert_row(*i, line.as_slice()).into(),
+        Call::Insert(Axis::Col, i, line) => grid.insert_col(*i, line.as_slice()).into(),
+        Call::Push(Axis::Row, line) => grid.push_row(line.as_slice()).into(),
+        Call::Push(Axis::Col, line) => grid.push_col(line.as_slice()).into(),
+        Call::Remove(Axis::Row, i) => taken(heap, cols, |line| grid.remove_row(*i, line))?,
+        Call::Remove(Axis::Col, i) => taken(heap, rows, |line| grid.remove_col(*i, line))?,
+        Call::Pop(Axis::Row) => taken(heap, cols, |line| grid.pop_row(line))?,
+        Call::Pop(Axis::Col) => taken(heap, rows, |line| grid.pop_col(line))?,
+        Call::Delete(Axis::Row, i) => grid.delete_row(*i).into(),
+        Call::Delete(Axis::Col, i) => grid.delete_col(*i).into(),
+        Call::Flip(Axis::Row) => grid.flip_rows().into(),
+        Call::Flip(Axis::Col) => grid.flip_cols().into(),
+        Call::Transpose => grid.transpose().into(),
+        Call::RotateLeft => grid.rotate_left().into(),
+        Call::RotateRight => grid.rotate_right().into(),
+        Call::RotateHalf => grid.rotate_half().into(),
+        Call::Put(r, c, x) => grid.put(*r, *c, *x).into(),
+        Call::Get(r, c) => grid.get(*r, *c).into(),
+        Call::IsEmpty => grid.is_empty().into(),
+        Call::Size => grid.size().into(),
+    })
+}
+
+// The line that a call hands out, of that length, or none where it refuses.
+fn taken<F: FnOnce(&mut [u32]) -> Result<(), Refusal>>(
+    heap: Global,
+    len: usize,
+    call: F,
+) -> Result<Answer, AllocError>
+    requires { F.IsAlwaysCallable call }
+{
+    let mut memory = [UNTOUCHED; SIDE];
+    let answer = call(&mut memory);
+    let n = if answer.is_ok() { len.min(SIDE) } else { 0 };
+    let (line, beyond) = memory.split_at(n);
+    if beyond.iter().any(|x| *x != UNTOUCHED) {
+        return Ok(Answer::Overrun);
     }
-    opens(memory, line)
-}
-
-fn same_order(a: Order, b: Order) -> bool {
-    matches!(
-        (a, b),
-        (Order::RowMajor, Order::RowMajor) | (Order::ColumnMajor, Order::ColumnMajor)
-    )
-}
-
-// The place of the flat cell i in a grid as it is after the call.
-fn place(e: &Entry, i: usize) -> (usize, usize) {
-    let rows = e.rows();
-    let cols = e.cols();
-    if rows == 0 || cols == 0 {
-        return (0, 0);
+    match answer {
+        Ok(()) => Ok(Answer::Line(Some(Vec::from_slice(heap, line)?))),
+        Err(_) => Ok(Answer::Line(None)),
     }
-    match e.after {
-        Order::RowMajor => (i / cols, i % cols),
-        Order::ColumnMajor => (i % rows, i / rows),
+}
+
+// Whether and in what the call's answer or the grid after it differs from the original's.
+fn compared(grid: &Grid<'_, u32>, answer: &Answer, e: &Entry) -> Option<Part> {
+    if *answer != e.answer {
+        Some(Part::Answer)
+    } else if !stands(grid, &e.after) {
+        Some(Part::Grid)
+    } else {
+        None
     }
 }
 
 // Whether the grid has the order, the size and the cells that the original's has after the call.
-fn stands(grid: &Grid<'_, u32>, e: &Entry) -> bool {
-    let (rows, cols) = grid.size();
-    if !same_order(grid.order(), e.after) || rows != e.rows() || cols != e.cols() {
+fn stands(grid: &Grid<'_, u32>, after: &After) -> bool {
+    if grid.order() != after.order || grid.size() != (after.rows, after.cols) {
         return false;
     }
-    if rows.checked_mul(cols) != Some(e.flat.len()) {
+    if after.rows.checked_mul(after.cols) != Some(after.flat.len()) {
         return false;
     }
-    for (i, x) in e.flat.iter().enumerate() {
-        let (r, c) = place(e, i);
-        match grid.get(r, c) {
-            Some(y) => {
-                if y != *x {
-                    return false;
-                }
-            }
-            None => return false,
-        }
+    let (_, len) = lying(after.order, (after.rows, after.cols));
+    after.flat.chunks(len.max(1)).enumerate().all(|(i, line)| {
+        line.iter().enumerate().all(|(j, x)| {
+            let (r, c) = lying(after.order, (i, j));
+            grid.get(r, c) == Some(*x)
+        })
+    })
+}
+
+// Rows and columns as flat cells lie, lines first, or back again.
+fn lying(order: Order, (rows, cols): (usize, usize)) -> (usize, usize) {
+    match order {
+        Order::RowMajor => (rows, cols),
+        Order::ColumnMajor => (cols, rows),
     }
-    true
 }

@@ -5,11 +5,11 @@ use Rattle.cells.specs.Refusals.{answered, refused, accepted, numbered}
 use Rattle.matrix.specs.Matrix.{Matrix, turned, put_cell, over}
 use Rattle.matrix.specs.Rules.{put_answer}
 use Rattle.matrix.proofs.Held.{turns}
-use Rattle.sheet.specs.declared.edit.Axis.{Axis}
-use Rattle.sheet.specs.declared.edit.Axis.TheVariants.{Row, Col}
+use Rattle.matrix.specs.declared.axis.Axis.{Axis}
+use Rattle.matrix.specs.declared.axis.Axis.TheVariants.{Row, Col}
 use Rattle.sheet.specs.declared.edit.Edit.{Edit}
 use Rattle.sheet.specs.declared.edit.Edit.TheVariants as edit
-use Rattle.sheet.specs.Axes.{other, inserted, removed, line_of, flipped, insert_along, remove_along}
+use Rattle.matrix.specs.Axes.{other, inserted, removed, line_of, flipped, insert_along, remove_along}
 use Rattle.sheet.specs.Book.{Book, Entry, owed_limit, kept, then, full, lacks, entered, alone, by_newest, span, handed_back, struck, settle, put_said, put_book, insert_said, insert_book, remove_said, remove_book, remove_memory, plain_said, transpose_book, flip_book, back_said, back_book, back_memory}
 use Rattle.replay.specs.declared.call.Call.{Call}
 use Rattle.replay.specs.declared.call.Call.TheVariants.{Put, Insert, Remove, Transpose, Flip, StepBack, Publish, Reopen, Get, Size, Owed, Kept, Settled}

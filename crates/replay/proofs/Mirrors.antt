@@ -4,10 +4,12 @@ use lib.Seq.{take-append-le}
 use Rattle.std.proofs.lemmas.List.{length-map, take-map, take-take}
 use Rattle.matrix.specs.declared.limits.Limits.{Limits}
 use Rattle.matrix.specs.Matrix.{Matrix, turned, over}
-use Rattle.keeps.specs.Kept.{Store}
+use Rattle.boards.specs.declared.board.Board.{Ghosts as Board}
+use Rattle.keeps.specs.declared.keep.Keep.{Ghosts as Keep}
 use Rattle.sheet.specs.Book.{kept}
 use Rattle.replay.specs.declared.call.Call.{Call}
 use Rattle.replay.specs.declared.call.Answer.{Answer}
+use Rattle.replay.specs.declared.lists.Left.{Left}
 use Rattle.replay.specs.World.{World, begun, after, replies}
 use Rattle.replay.specs.Laws.{Law, Mirrored, exchange, turned_world}
 use Rattle.replay.proofs.Exchanged.{kept_turned, length_turned}
@@ -19,19 +21,19 @@ take_mapped f n xs ys h k =
     ∙ take-map f n (take (length ys) xs) ∙ ap (map f) (take-take n (length ys) xs k)
 
 -- a law of lists, said of lists that are the same
-module _ {B K T : Type 0} (matrix : B → Matrix T) (limits : B → Limits) (ordered : K → Type 0) (store : K → Store T) (board : B) (keep : K) (owed : ℕ) (memory : List T) (pool : List T) (w : World T) where
-  pub law_of : {answers answers' : List (Answer T)} {calls calls' : List (Call T)} → answers ≡ answers' → calls ≡ calls' → Law matrix limits ordered store board keep owed memory answers pool calls w → Law matrix limits ordered store board keep owed memory answers' pool calls' w
-  law_of {answers} {answers'} {calls} {calls'} p q h = subst (λ z. Law matrix limits ordered store board keep owed memory answers' pool z w) q (subst (λ z. Law matrix limits ordered store board keep owed memory z pool calls w) p h)
+module _ {B K T : Type 0} (as_board : Board B T) (as_keep : Keep K T) (end : Left B K) (memory : List T) (pool : List T) (w : World T) where
+  pub law_of : {answers answers' : List (Answer T)} {calls calls' : List (Call T)} → answers ≡ answers' → calls ≡ calls' → Law as_board as_keep end memory answers pool calls w → Law as_board as_keep end memory answers' pool calls' w
+  law_of {answers} {answers'} {calls} {calls'} p q h = subst (λ z. Law as_board as_keep end memory answers' pool z w) q (subst (λ z. Law as_board as_keep end memory z pool calls w) p h)
 
 -- the front of a memory for answers, of which n cells were lent and came back as xs
 module _ {X : Type 0} (n m : ℕ) (xs ys : List X) (len : length xs ≡ n) (le : n ≤ m) where
   pub front_is : take m xs ≡ take n (xs ++ ys)
   front_is = take_all m xs (omega arith) ∙ sym (take_at xs ys n len)
 
-module _ {B K C L T : Type 0} (matrix : B → Matrix T) (limits : B → Limits) (ordered : K → Type 0) (store : K → Store T) (matrix' : C → Matrix T) (limits' : C → Limits) (ordered' : L → Type 0) (store' : L → Store T)
-    (board : B) (keep : K) (owed : ℕ) (board' : C) (keep' : L) (owed' : ℕ) (memory memory' : List T) (answers answers' : List (Answer T)) (pool : List T) (calls : List (Call T)) (m m' : Matrix T) (l l' : Limits) (most most' : ℕ) (mem mem' : List T) where
-  pub mirrored : Law matrix limits ordered store board keep owed memory answers pool calls (begun m l most mem) → Law matrix' limits' ordered' store' board' keep' owed' memory' answers' pool (map exchange calls) (begun m' l' most' mem')
-      → m' ≡ turned m → l' ≡ l → most' ≡ most → mem' ≡ mem → Mirrored matrix store matrix' store' board keep owed board' keep' owed' memory memory' answers answers'
+module _ {B K C L T : Type 0} (as_board : Board B T) (as_keep : Keep K T) (as_board' : Board C T) (as_keep' : Keep L T)
+    (end : Left B K) (end' : Left C L) (memory memory' : List T) (answers answers' : List (Answer T)) (pool : List T) (calls : List (Call T)) (m m' : Matrix T) (l l' : Limits) (most most' : ℕ) (mem mem' : List T) where
+  pub mirrored : Law as_board as_keep end memory answers pool calls (begun m l most mem) → Law as_board' as_keep' end' memory' answers' pool (map exchange calls) (begun m' l' most' mem')
+      → m' ≡ turned m → l' ≡ l → most' ≡ most → mem' ≡ mem → Mirrored as_board as_keep as_board' as_keep' end end' memory memory' answers answers'
   mirrored a b m_is l_is most_is mem_is =
       let w : World T = begun m l most mem in
       let begins : begun m' l' most' mem' ≡ turned_world w = ap (λ z. begun z l' most' mem') m_is ∙ ap (λ z. begun (turned m) z most' mem') l_is ∙ ap (λ z. begun (turned m) l z mem') most_is ∙ ap (begun (turned m) l most) mem_is in

@@ -6,7 +6,7 @@ use Rattle.matrix.specs.declared.limits.Limits.{Limits}
 use Rattle.matrix.specs.Matrix.{Matrix, over, before, listed}
 use Rattle.sheet.specs.declared.edit.Edit.{Edit}
 use Rattle.sheet.specs.declared.edit.Edit.TheVariants.{Put, Insert, Remove, Transpose, Flip}
-use Rattle.sheet.specs.Axes.{along}
+use Rattle.matrix.specs.Axes.{along}
 use Rattle.sheet.specs.Book.{Entry, by_newest, struck, span, handed_back, back_said, back_book, back_memory}
 use Rattle.sheet.specs.Stands.{Undoable, Past}
 use Rattle.replay.specs.declared.call.Segment.{Segment}

@@ -3,11 +3,11 @@ use Rattle.std.proofs.Common.{◌≡◌, ℕ, ◌+◌, ◌<◌, ◌≤◌, List,
 use lib.Seq.{take-append-le}
 use Rattle.std.specs.List.{slice_get}
 use Rattle.std.proofs.lemmas.Bool.{cases_lt}
-use Rattle.matrix.specs.declared.limits.Limits.{Limits}
-use Rattle.matrix.specs.Matrix.{Matrix, over}
+use Rattle.matrix.specs.Matrix.{over}
 use Rattle.matrix.proofs.Stretches.{take_one_more, over_one_more}
 use Rattle.matrix.proofs.Runs.{after_append, replies_append, replies_length}
-use Rattle.keeps.specs.Kept.{Store}
+use Rattle.boards.specs.declared.board.Board.{Ghosts as Board}
+use Rattle.keeps.specs.declared.keep.Keep.{Ghosts as Keep}
 use Rattle.sheet.specs.declared.sheets.PublishedSheet.{PublishedSheet}
 use Rattle.sheet.specs.Book.{Entry, edits}
 use Rattle.replay.specs.declared.call.Call.{Call}
@@ -20,16 +20,16 @@ no_edits : {T : Type 0} (es : List (Entry T)) → [] ≡ edits es → es ≡ []
 no_edits [] p = refl
 no_edits (e ∷ es) p = absurd (omega (arith, ap length p, length-append (edits es) (e.edit ∷ [])))
 
-module _ {B K T : Type 0} (matrix : B → Matrix T) (limits : B → Limits) (ordered : K → Type 0) (store : K → Store T) where
-  holds_firm : (n : ℕ) (state : State B K) (w : World T) → Holds matrix limits ordered store state w → length w.memory ≡ n → Firm n w
+module _ {B K T : Type 0} (as_board : Board B T) (as_keep : Keep K T) where
+  holds_firm : (n : ℕ) (state : State B K) (w : World T) → Holds as_board as_keep state w → length w.memory ≡ n → Firm n w
   holds_firm n (Open s) w h e = record { past = h.1.past; owing = inl h.0; room = e }
   holds_firm n (Published p) w h e = record { past = h.1.0.past; owing = inr (no_edits w.book.entries h.1.0.notes); room = e }
 
-  pub owes_nothing : (p : PublishedSheet B K) (w : World T) → Holds matrix limits ordered store (Published p) w → 0 ≡ length w.book.entries
+  pub owes_nothing : (p : PublishedSheet B K) (w : World T) → Holds as_board as_keep (Published p) w → 0 ≡ length w.book.entries
   owes_nothing p w h = sym (ap length (no_edits w.book.entries h.1.0.notes))
 
   module _ (pool : List T) (calls : List (Call T)) (before : List (Answer T)) (w : World T) where
-    pub ran_none : (state : State B K) (memory : List T) → Holds matrix limits ordered store state w → w.memory ≡ memory → Ran matrix limits ordered store state memory before before pool [] w
+    pub ran_none : (state : State B K) (memory : List T) → Holds as_board as_keep state w → w.memory ≡ memory → Ran as_board as_keep state memory before before pool [] w
     ran_none state memory h m = record {
       stands = h;
       memory_is = sym m;
@@ -38,8 +38,8 @@ module _ {B K T : Type 0} (matrix : B → Matrix T) (limits : B → Limits) (ord
     }
 
     pub ran_more : (i : ℕ) (state old : State B K) (a : Answer T) (memory was : List T) (answers : List (Answer T)) (c : Call T) → slice_get calls i ≡ Some c → i < length calls → i < length before
-        → Steps matrix limits ordered store state a memory pool c (after pool (take i calls) w) → length memory ≡ length w.memory → Ran matrix limits ordered store old was before answers pool (take i calls) w
-        → Ran matrix limits ordered store state memory before (set answers i a) pool (take (i + 1) calls) w
+        → Steps as_board as_keep state a memory pool c (after pool (take i calls) w) → length memory ≡ length w.memory → Ran as_board as_keep old was before answers pool (take i calls) w
+        → Ran as_board as_keep state memory before (set answers i a) pool (take (i + 1) calls) w
     ran_more i state old a memory was answers c e hc hb s len ran = record {
       stands = stands;
       memory_is = memory_is;
@@ -61,8 +61,8 @@ module _ {B K T : Type 0} (matrix : B → Matrix T) (limits : B → Limits) (ord
         world : next pool c (after pool (take i calls) w) ≡ after pool (take (i + 1) calls) w
         world = sym (after_append (next pool) (reply pool) (take i calls) (c ∷ []) w) ∙ ap (λ z. after pool z w) (sym more)
 
-        stands : Holds matrix limits ordered store state (after pool (take (i + 1) calls) w)
-        stands = subst (λ z. Holds matrix limits ordered store state z) world s.stands
+        stands : Holds as_board as_keep state (after pool (take (i + 1) calls) w)
+        stands = subst (λ z. Holds as_board as_keep state z) world s.stands
 
         memory_is : memory ≡ (after pool (take (i + 1) calls) w).memory
         memory_is = s.memory_is ∙ ap (λ z. z.memory) world

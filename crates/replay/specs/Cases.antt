@@ -5,7 +5,7 @@ use Rattle.matrix.specs.declared.shape.Order.TheVariants.{RowMajor}
 use Rattle.matrix.specs.Shapes.{rowwise, flat}
 use Rattle.matrix.specs.Rules.{grid_limits}
 use Rattle.matrix.specs.Cases as boards
-use Rattle.sheet.specs.declared.edit.Axis.TheVariants.{Row}
+use Rattle.matrix.specs.declared.axis.Axis.TheVariants.{Row}
 use Rattle.replay.specs.declared.call.Segment.{Segment}
 use Rattle.replay.specs.declared.call.Call.{Call}
 use Rattle.replay.specs.declared.call.Call.TheVariants.{Put, Remove, StepBack, Owed, Kept}

@@ -1,17 +1,18 @@
 -- Laws over every list of calls.
 use Rattle.std.specs.Prelude.{◌≡◌, ℕ, zero, suc, ◌+◌, ◌≤◌, min, List, [], ◌∷◌, ◌++◌, map, length, drop, Ok}
-use Rattle.matrix.specs.declared.limits.Limits.{Limits}
 use Rattle.matrix.specs.Matrix.{Matrix, turned}
-use Rattle.keeps.specs.Kept.{Store}
+use Rattle.boards.specs.declared.board.Board.{Ghosts as Board}
+use Rattle.keeps.specs.declared.keep.Keep.{Ghosts as Keep}
 use Rattle.sheet.specs.declared.edit.Edit.{Edit}
 use Rattle.sheet.specs.declared.edit.Edit.TheVariants as edit
-use Rattle.sheet.specs.Axes.{other}
+use Rattle.matrix.specs.Axes.{other}
 use Rattle.sheet.specs.Book.{Book, Entry, kept}
 use Rattle.replay.specs.declared.call.Segment.{Segment}
 use Rattle.replay.specs.declared.call.Call.{Call}
 use Rattle.replay.specs.declared.call.Call.TheVariants.{Put, Insert, Remove, Transpose, Flip, StepBack, Publish, Reopen, Get, Size, Owed, Kept, Settled}
 use Rattle.replay.specs.declared.call.Answer.{Answer}
 use Rattle.replay.specs.declared.call.Answer.TheVariants.{Said, Cell, Sized, Count, Moved, Lacking}
+use Rattle.replay.specs.declared.lists.Left.{Left}
 use Rattle.replay.specs.World.{World, after, replies}
 use Rattle.replay.specs.Tallies.{accepts, backs, settles, total}
 
@@ -81,35 +82,35 @@ turned_world w = record { book = turned_book w.book; stage = w.stage; memory = w
 
 -- After any list on a new sheet, which began as the world w: of the sheet's own board and keep, of the count owed, of the
 -- memory and of the answers.
-pub record Law {B K T : Type 0} (matrix : B → Matrix T) (limits : B → Limits) (ordered : K → Type 0) (store : K → Store T) (board : B) (keep : K) (owed : ℕ) (memory : List T) (answers : List (Answer T)) (pool : List T) (calls : List (Call T)) (w : World T) : Type 0 where
+pub record Law {B K T : Type 0} (as_board : Board B T) (as_keep : Keep K T) (end : Left B K) (memory : List T) (answers : List (Answer T)) (pool : List T) (calls : List (Call T)) (w : World T) : Type 0 where
   -- all answers are the book's, and so are the memory, the board's size and cells, and the count owed
   pub said : answers ≡ replies pool calls w
   pub left : memory ≡ (after pool calls w).memory
-  pub cells : matrix board ≡ (after pool calls w).book.matrix
-  pub owes : owed ≡ length (after pool calls w).book.entries
+  pub cells : as_board.matrix end.board ≡ (after pool calls w).book.matrix
+  pub owes : end.owed ≡ length (after pool calls w).book.entries
   -- edits accepted, counted from the answers, are owed, stepped back or settled
-  pub count : total accepts calls answers ≡ owed + total backs calls answers + total settles calls answers
+  pub count : total accepts calls answers ≡ end.owed + total backs calls answers + total settles calls answers
   -- the keep holds what owed edits took off, oldest first
-  pub keeps : (store keep).cells ≡ kept (after pool calls w).book.entries
-  pub in_order : ordered keep
+  pub keeps : (as_keep.store end.keep).cells ≡ kept (after pool calls w).book.entries
+  pub in_order : as_keep.ordered end.keep
   -- limits never change
-  pub bounds : limits board ≡ w.book.limits
-  pub most : (store keep).most ≡ w.book.most
+  pub bounds : as_board.limits end.board ≡ w.book.limits
+  pub most : (as_keep.store end.keep).most ≡ w.book.most
   -- Where the list ends with as many steps back as were owed at most, each given 256 cells, they are accepted, and the board
   -- has the size and cells that stood before the newest of those edits.
   pub restores : (cs : List (Call T)) (gs : List Segment) → calls ≡ cs ++ steps gs → length gs ≤ length (after pool cs w).book.entries → Ample (length w.memory) gs
-      → (drop (length cs) answers ≡ all_done gs) × (matrix board ≡ earlier (length gs) (after pool cs w).book.matrix (after pool cs w).book.entries)
+      → (drop (length cs) answers ≡ all_done gs) × (as_board.matrix end.board ≡ earlier (length gs) (after pool cs w).book.matrix (after pool cs w).book.entries)
   -- the exchange of the list on the world turned is answered alike, and leaves the world turned
   pub turns : (after pool (map exchange calls) (turned_world w) ≡ turned_world (after pool calls w)) × (replies pool (map exchange calls) (turned_world w) ≡ map exchanged answers)
 
 -- Two sheets, one of which began as the other turned, after a list and its exchange: of their own boards and keeps, of the
 -- counts owed, of the memories and of the answers.
-pub record Mirrored {B K C L T : Type 0} (matrix : B → Matrix T) (store : K → Store T) (matrix' : C → Matrix T) (store' : L → Store T) (board : B) (keep : K) (owed : ℕ) (board' : C) (keep' : L) (owed' : ℕ) (memory memory' : List T) (answers answers' : List (Answer T)) : Type 0 where
+pub record Mirrored {B K C L T : Type 0} (as_board : Board B T) (as_keep : Keep K T) (as_board' : Board C T) (as_keep' : Keep L T) (end : Left B K) (end' : Left C L) (memory memory' : List T) (answers answers' : List (Answer T)) : Type 0 where
   pub said : answers' ≡ map exchanged answers
   pub left : memory' ≡ memory
-  pub cells : matrix' board' ≡ turned (matrix board)
-  pub owes : owed' ≡ owed
-  pub keeps : (store' keep').cells ≡ (store keep).cells
+  pub cells : as_board'.matrix end'.board ≡ turned (as_board.matrix end.board)
+  pub owes : end'.owed ≡ end.owed
+  pub keeps : (as_keep'.store end'.keep).cells ≡ (as_keep.store end.keep).cells
 
 -- as many calls of a list as there is room for: for their exchange, and for the answers of both sheets
 abbrev pub room : {C A : Type 0} → List C → List C → List A → List A → ℕ

@@ -3,7 +3,8 @@ use Rattle.std.specs.Prelude.{◌≡◌, ℕ, ◌+◌, ◌⊎◌, List, [], ◌+
 use Rattle.matrix.specs.declared.limits.Limits.{Limits}
 use Rattle.matrix.specs.Matrix.{Matrix, over}
 use Rattle.matrix.specs.Runs as runs
-use Rattle.keeps.specs.Kept.{Store}
+use Rattle.boards.specs.declared.board.Board.{Ghosts as Board}
+use Rattle.keeps.specs.declared.keep.Keep.{Ghosts as Keep}
 use Rattle.sheet.specs.Book.{Book, fresh, kept, settle, put_said, put_book, insert_said, insert_book, remove_said, remove_book, remove_memory, plain_said, transpose_book, flip_book, back_said, back_book, back_memory}
 use Rattle.sheet.specs.Stands.{Past}
 use Rattle.sheet.specs.Sheets.{Stands, Closed}
@@ -23,6 +24,10 @@ pub record World (T : Type 0) : Type 0 where
 
 abbrev pub begun : {T : Type 0} → Matrix T → Limits → ℕ → List T → World T
 begun m l most memory = record { book = fresh m l most; stage = None; memory = memory }
+
+-- on a new sheet of a board and a keep, with this memory
+abbrev pub started : {B K T : Type 0} → Board B T → Keep K T → B → K → List T → World T
+started as_board as_keep board keep memory = begun (as_board.matrix board) (as_board.limits board) (as_keep.store keep).most memory
 
 -- the cells of a segment, and the pool when they are written over
 abbrev pub part : {T : Type 0} → List T → Segment → List T
@@ -80,13 +85,13 @@ abbrev pub replies : {T : Type 0} → List T → List (Call T) → World T → L
 replies pool cs w = runs.replies (next pool) (reply pool) cs w
 
 -- a sheet, open or published, stands as a world says
-abbrev pub Holds : {B K T : Type 0} → (B → Matrix T) → (B → Limits) → (K → Type 0) → (K → Store T) → State B K → World T → Type 0
-Holds matrix limits ordered store (Open s) w = (w.stage ≡ None) × Stands matrix limits ordered store s w.book
-Holds matrix limits ordered store (Published p) w = (w.stage ≡ Some p.settled) × Closed matrix limits ordered store p w.book p.settled
+abbrev pub Holds : {B K T : Type 0} → Board B T → Keep K T → State B K → World T → Type 0
+Holds as_board as_keep (Open s) w = (w.stage ≡ None) × Stands as_board as_keep s w.book
+Holds as_board as_keep (Published p) w = (w.stage ≡ Some p.settled) × Closed as_board as_keep p w.book p.settled
 
 -- one call on such a sheet
-pub record Steps {B K T : Type 0} (matrix : B → Matrix T) (limits : B → Limits) (ordered : K → Type 0) (store : K → Store T) (new : State B K) (a : Answer T) (memory : List T) (pool : List T) (c : Call T) (w : World T) : Type 0 where
-  pub stands : Holds matrix limits ordered store new (next pool c w)
+pub record Steps {B K T : Type 0} (as_board : Board B T) (as_keep : Keep K T) (new : State B K) (a : Answer T) (memory : List T) (pool : List T) (c : Call T) (w : World T) : Type 0 where
+  pub stands : Holds as_board as_keep new (next pool c w)
   pub answer : a ≡ reply pool c w
   pub memory_is : memory ≡ (next pool c w).memory
 
@@ -97,8 +102,8 @@ pub record Firm {T : Type 0} (n : ℕ) (w : World T) : Type 0 where
   pub room : length w.memory ≡ n
 
 -- a list of calls on such a sheet, the answers written over a memory for them
-pub record Ran {B K T : Type 0} (matrix : B → Matrix T) (limits : B → Limits) (ordered : K → Type 0) (store : K → Store T) (new : State B K) (memory : List T) (before answers : List (Answer T)) (pool : List T) (calls : List (Call T)) (w : World T) : Type 0 where
-  pub stands : Holds matrix limits ordered store new (after pool calls w)
+pub record Ran {B K T : Type 0} (as_board : Board B T) (as_keep : Keep K T) (new : State B K) (memory : List T) (before answers : List (Answer T)) (pool : List T) (calls : List (Call T)) (w : World T) : Type 0 where
+  pub stands : Holds as_board as_keep new (after pool calls w)
   pub memory_is : memory ≡ (after pool calls w).memory
   pub answers_are : answers ≡ over (replies pool calls w) before
   pub firm : (k : ℕ) → Firm (length w.memory) (after pool (take k calls) w)

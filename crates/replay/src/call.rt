@@ -2,17 +2,17 @@
 pub mod exchange;
 
 use cells::refusal::Refusal;
-use sheet::edit::Axis;
+use matrix::axis::Axis;
 use sheet::sheets::{OpenSheet, PublishedSheet};
 
 // Cells of a pool: from `start` on, `len` of them at most.
-#[derive(Clone, Copy)]
+#[derive(Clone, Copy, Debug, PartialEq, Eq)]
 pub struct Segment {
     pub start: usize,
     pub len: usize,
 }
 
-#[derive(Clone, Copy)]
+#[derive(Clone, Copy, Debug, PartialEq, Eq)]
 pub enum Call<T> {
     Put(usize, usize, T),
     Insert(Axis, usize, Segment),
@@ -30,7 +30,7 @@ pub enum Call<T> {
 }
 
 // `Lacking` is said where the sheet's state does not have the call.
-#[derive(Clone, Copy)]
+#[derive(Clone, Copy, Debug, PartialEq, Eq)]
 pub enum Answer<T> {
     Said(Result<(), Refusal>),
     Cell(Option<T>),

@@ -1,6 +1,6 @@
 // A scorer's list on a new sheet.
 ghost use Rattle.std.specs.Prelude.{◌≡◌, List, length, take, drop};
-ghost use Rattle.replay.specs.World.{World, Holds, Ran, board_of, keep_of, begun};
+ghost use Rattle.replay.specs.World.{World, Holds, Ran, board_of, keep_of, started};
 ghost use Rattle.replay.specs.Laws.{Law};
 
 use crate::call::{Answer, Call, State};
@@ -20,18 +20,18 @@ pub struct Left<B, K> {
 
 // The calls in order, as many as there is room for answers.
 fn run<B: Board, K: Keep<Cell = B::Cell>>(
-    state: State<B, K>,
+    mut state: State<B, K>,
     calls: &[Call<B::Cell>],
     lines: &[B::Cell],
     memory: &mut [B::Cell],
     answers: &mut [Answer<B::Cell>],
 ) -> State<B, K>
-    ensures ran { (w : World B.Cell) → Holds B.Board.matrix B.Board.limits K.Keep.ordered K.Keep.store state w → w.memory ≡ memory.old → Ran B.Board.matrix B.Board.limits K.Keep.ordered K.Keep.store result memory.new answers.old answers.new lines.now (take (length answers.old) calls.now) w }
+    ensures ran { (w : World B.Cell) → Holds B.Board K.Keep state w → w.memory ≡ memory.old → Ran B.Board K.Keep result memory.new answers.old answers.new lines.now (take (length answers.old) calls.now) w }
 {
-    let mut state = state;
+    // kept: of a zip with answers.iter_mut() a proof knows no element after the loop, so each answer is written at its place
     let n = calls.len().min(answers.len());
-    for i in 0..n {
-        let (next, answer) = step(state, calls[i], lines, memory);
+    for (i, call) in calls[..n].iter().enumerate() {
+        let (next, answer) = step(state, *call, lines, memory);
         state = next;
         poke(answers, i, answer);
     }
@@ -42,7 +42,7 @@ fn run<B: Board, K: Keep<Cell = B::Cell>>(
 fn parts<B: Board, K: Keep<Cell = B::Cell>>(state: State<B, K>) -> Left<B, K>
     ensures board { result.board ≡ board_of state }
     ensures keep { result.keep ≡ keep_of state }
-    ensures owed { (w : World B.Cell) → Holds B.Board.matrix B.Board.limits K.Keep.ordered K.Keep.store state w → result.owed ≡ length w.book.entries }
+    ensures owed { (w : World B.Cell) → Holds B.Board K.Keep state w → result.owed ≡ length w.book.entries }
 {
     match state {
         State::Open(sheet) => {
@@ -63,6 +63,7 @@ fn parts<B: Board, K: Keep<Cell = B::Cell>>(state: State<B, K>) -> Left<B, K>
 
 // Makes a sheet of the board and the keep and runs the list on it: as many of its calls as there is room for answers. Lines
 // that go in are segments of `lines`, and memory that is handed over for a line is a segment of `memory`.
+// kept: a caller has these as slices of its own; a struct of them would be built for this call and taken apart in it
 pub fn replay<B: Board, K: Keep<Cell = B::Cell>>(
     board: B,
     keep: K,
@@ -71,7 +72,7 @@ pub fn replay<B: Board, K: Keep<Cell = B::Cell>>(
     memory: &mut [B::Cell],
     answers: &mut [Answer<B::Cell>],
 ) -> Left<B, K>
-    ensures law { Law B.Board.matrix B.Board.limits K.Keep.ordered K.Keep.store result.board result.keep result.owed memory.new (take (length calls.now) answers.new) lines.now (take (length answers.old) calls.now) (begun (B.Board.matrix board) (B.Board.limits board) (K.Keep.store keep).most memory.old) }
+    ensures law { Law B.Board K.Keep result memory.new (take (length calls.now) answers.new) lines.now (take (length answers.old) calls.now) (started B.Board K.Keep board keep memory.old) }
     ensures rest { drop (length calls.now) answers.new ≡ drop (length calls.now) answers.old }
 {
     let sheet = OpenSheet::new(board, keep);

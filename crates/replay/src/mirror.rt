@@ -1,7 +1,7 @@
 // A list on one sheet, and its exchange on another.
 ghost use Rattle.std.specs.Prelude.{◌≡◌, List, map, length, take, drop};
 ghost use Rattle.matrix.specs.Matrix.{turned};
-ghost use Rattle.replay.specs.World.{begun};
+ghost use Rattle.replay.specs.World.{started};
 ghost use Rattle.replay.specs.Laws.{Law, Mirrored, exchange, room};
 
 use crate::call::exchange::exchange_all;
@@ -12,6 +12,7 @@ use keeps::keep::Keep;
 
 // Runs the list on a new sheet of the first board and keep, and its exchange, which it writes down in `exchanged`, on one of
 // the others: as many calls as there is room for their exchange and for the answers of both.
+// kept: each of the two lists has a board, a keep and memory of its own, of other types, and they share the lines
 pub fn replay_both<
     B: Board,
     K: Keep<Cell = B::Cell>,
@@ -30,25 +31,25 @@ pub fn replay_both<
     answers: &mut [Answer<B::Cell>],
     other_answers: &mut [Answer<B::Cell>],
 ) -> (Left<B, K>, Left<C, L>)
-    ensures law { Law B.Board.matrix B.Board.limits K.Keep.ordered K.Keep.store result.0.board result.0.keep result.0.owed memory.new (take (room calls.now exchanged.old answers.old other_answers.old) answers.new) lines.now (take (room calls.now exchanged.old answers.old other_answers.old) calls.now) (begun (B.Board.matrix board) (B.Board.limits board) (K.Keep.store keep).most memory.old) }
-    ensures other { Law C.Board.matrix C.Board.limits L.Keep.ordered L.Keep.store result.1.board result.1.keep result.1.owed other_memory.new (take (room calls.now exchanged.old answers.old other_answers.old) other_answers.new) lines.now (map exchange (take (room calls.now exchanged.old answers.old other_answers.old) calls.now)) (begun (C.Board.matrix other_board) (C.Board.limits other_board) (L.Keep.store other_keep).most other_memory.old) }
-    ensures mirrored { C.Board.matrix other_board ≡ turned (B.Board.matrix board) → C.Board.limits other_board ≡ B.Board.limits board → (L.Keep.store other_keep).most ≡ (K.Keep.store keep).most → other_memory.old ≡ memory.old → Mirrored B.Board.matrix K.Keep.store C.Board.matrix L.Keep.store result.0.board result.0.keep result.0.owed result.1.board result.1.keep result.1.owed memory.new other_memory.new (take (room calls.now exchanged.old answers.old other_answers.old) answers.new) (take (room calls.now exchanged.old answers.old other_answers.old) other_answers.new) }
-    ensures rest { drop (room calls.now exchanged.old answers.old other_answers.old) answers.new ≡ drop (room calls.now exchanged.old answers.old other_answers.old) answers.old }
-    ensures other_rest { drop (room calls.now exchanged.old answers.old other_answers.old) other_answers.new ≡ drop (room calls.now exchanged.old answers.old other_answers.old) other_answers.old }
+    ensures law { let n = room calls.now exchanged.old answers.old other_answers.old in Law B.Board K.Keep result.0 memory.new (take n answers.new) lines.now (take n calls.now) (started B.Board K.Keep board keep memory.old) }
+    ensures other { let n = room calls.now exchanged.old answers.old other_answers.old in Law C.Board L.Keep result.1 other_memory.new (take n other_answers.new) lines.now (map exchange (take n calls.now)) (started C.Board L.Keep other_board other_keep other_memory.old) }
+    ensures mirrored { let n = room calls.now exchanged.old answers.old other_answers.old in C.Board.matrix other_board ≡ turned (B.Board.matrix board) → C.Board.limits other_board ≡ B.Board.limits board → (L.Keep.store other_keep).most ≡ (K.Keep.store keep).most → other_memory.old ≡ memory.old → Mirrored B.Board K.Keep C.Board L.Keep result.0 result.1 memory.new other_memory.new (take n answers.new) (take n other_answers.new) }
+    ensures rest { let n = room calls.now exchanged.old answers.old other_answers.old in drop n answers.new ≡ drop n answers.old }
+    ensures other_rest { let n = room calls.now exchanged.old answers.old other_answers.old in drop n other_answers.new ≡ drop n other_answers.old }
 {
     let n = calls
         .len()
         .min(exchanged.len())
         .min(answers.len().min(other_answers.len()));
     exchange_all(calls, exchanged);
-    let one = replay(board, keep, calls, lines, memory, &mut answers[0..n]);
+    let one = replay(board, keep, calls, lines, memory, &mut answers[..n]);
     let two = replay(
         other_board,
         other_keep,
         exchanged,
         lines,
         other_memory,
-        &mut other_answers[0..n],
+        &mut other_answers[..n],
     );
     (one, two)
 }

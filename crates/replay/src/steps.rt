@@ -7,110 +7,77 @@ use crate::call::{Answer, Call, Segment, State};
 use boards::board::Board;
 use keeps::keep::Keep;
 use sheet::sheets::{OpenSheet, PublishedSheet};
+use std::ops::Range;
 
-// Where a segment begins and ends in a pool of `total` cells.
-fn clip(segment: Segment, total: usize) -> (usize, usize)
-    ensures start { result.0 ≡ min segment.start total }
-    ensures end { result.1 ≡ result.0 + min segment.len (total - result.0) }
-{
-    let start = segment.start.min(total);
-    let end = start + segment.len.min(total - start);
-    (start, end)
+impl Segment {
+    // Where it lies in a pool of `total` cells.
+    fn within(self, total: usize) -> Range<usize>
+        ensures start { result.start ≡ min self.start total }
+        ensures end { result.end ≡ result.start + min self.len (total - result.start) }
+    {
+        let start = self.start.min(total);
+        start..start + self.len.min(total - start)
+    }
 }
 
 fn step_published<B: Board, K: Keep<Cell = B::Cell>>(
     sheet: PublishedSheet<B, K>,
     call: Call<B::Cell>,
 ) -> (State<B, K>, Answer<B::Cell>)
-    ensures steps { (w : World B.Cell) (pool : List B.Cell) → w.stage ≡ Some sheet.settled → Closed B.Board.matrix B.Board.limits K.Keep.ordered K.Keep.store sheet w.book sheet.settled → Steps B.Board.matrix B.Board.limits K.Keep.ordered K.Keep.store result.0 result.1 w.memory pool call w }
+    ensures steps { (w : World B.Cell) (pool : List B.Cell) → w.stage ≡ Some sheet.settled → Closed B.Board K.Keep sheet w.book sheet.settled → Steps B.Board K.Keep result.0 result.1 w.memory pool call w }
 {
-    match call {
-        Call::Reopen => (State::Open(sheet.reopen()), Answer::Moved),
-        Call::Get(r, c) => {
-            let cell = sheet.get(r, c);
-            (State::Published(sheet), Answer::Cell(cell))
-        }
+    let answer = match call {
+        Call::Reopen => return (State::Open(sheet.reopen()), Answer::Moved),
+        Call::Get(r, c) => Answer::Cell(sheet.get(r, c)),
         Call::Size => {
             let (rows, cols) = sheet.size();
-            (State::Published(sheet), Answer::Sized(rows, cols))
+            Answer::Sized(rows, cols)
         }
-        Call::Settled => {
-            let n = sheet.settled();
-            (State::Published(sheet), Answer::Count(n))
-        }
-        Call::Put(_, _, _) => (State::Published(sheet), Answer::Lacking),
-        Call::Insert(_, _, _) => (State::Published(sheet), Answer::Lacking),
-        Call::Remove(_, _, _) => (State::Published(sheet), Answer::Lacking),
-        Call::Transpose => (State::Published(sheet), Answer::Lacking),
-        Call::Flip(_) => (State::Published(sheet), Answer::Lacking),
-        Call::StepBack(_) => (State::Published(sheet), Answer::Lacking),
-        Call::Publish => (State::Published(sheet), Answer::Lacking),
-        Call::Owed => (State::Published(sheet), Answer::Lacking),
-        Call::Kept => (State::Published(sheet), Answer::Lacking),
-    }
+        Call::Settled => Answer::Count(sheet.settled()),
+        _ => Answer::Lacking,
+    };
+    (State::Published(sheet), answer)
 }
 
 fn step_open<B: Board, K: Keep<Cell = B::Cell>>(
-    sheet: OpenSheet<B, K>,
+    mut sheet: OpenSheet<B, K>,
     call: Call<B::Cell>,
     lines: &[B::Cell],
     memory: &mut [B::Cell],
 ) -> (State<B, K>, Answer<B::Cell>)
-    ensures steps { (w : World B.Cell) → w.stage ≡ None → Stands B.Board.matrix B.Board.limits K.Keep.ordered K.Keep.store sheet w.book → w.memory ≡ memory.old → Steps B.Board.matrix B.Board.limits K.Keep.ordered K.Keep.store result.0 result.1 memory.new lines.now call w }
+    ensures steps { (w : World B.Cell) → w.stage ≡ None → Stands B.Board K.Keep sheet w.book → w.memory ≡ memory.old → Steps B.Board K.Keep result.0 result.1 memory.new lines.now call w }
 {
-    let mut sheet = sheet;
-    match call {
-        Call::Put(r, c, x) => {
-            let said = sheet.put(r, c, x);
-            (State::Open(sheet), Answer::Said(said))
-        }
+    let answer = match call {
+        Call::Put(r, c, x) => Answer::Said(sheet.put(r, c, x)),
         Call::Insert(axis, i, segment) => {
-            let (start, end) = clip(segment, lines.len());
-            let said = sheet.insert(axis, i, &lines[start..end]);
-            (State::Open(sheet), Answer::Said(said))
+            let line = &lines[segment.within(lines.len())];
+            Answer::Said(sheet.insert(axis, i, line))
         }
         Call::Remove(axis, i, segment) => {
-            let (start, end) = clip(segment, memory.len());
-            let said = sheet.remove(axis, i, &mut memory[start..end]);
-            (State::Open(sheet), Answer::Said(said))
+            let range = segment.within(memory.len());
+            Answer::Said(sheet.remove(axis, i, &mut memory[range]))
         }
-        Call::Transpose => {
-            let said = sheet.transpose();
-            (State::Open(sheet), Answer::Said(said))
-        }
-        Call::Flip(axis) => {
-            let said = sheet.flip(axis);
-            (State::Open(sheet), Answer::Said(said))
-        }
+        Call::Transpose => Answer::Said(sheet.transpose()),
+        Call::Flip(axis) => Answer::Said(sheet.flip(axis)),
         Call::StepBack(segment) => {
-            let (start, end) = clip(segment, memory.len());
-            let said = sheet.step_back(&mut memory[start..end]);
-            (State::Open(sheet), Answer::Said(said))
+            let range = segment.within(memory.len());
+            Answer::Said(sheet.step_back(&mut memory[range]))
         }
         Call::Publish => {
             let published = sheet.publish();
             let n = published.settled();
-            (State::Published(published), Answer::Count(n))
+            return (State::Published(published), Answer::Count(n));
         }
-        Call::Reopen => (State::Open(sheet), Answer::Lacking),
-        Call::Get(r, c) => {
-            let cell = sheet.get(r, c);
-            (State::Open(sheet), Answer::Cell(cell))
-        }
+        Call::Get(r, c) => Answer::Cell(sheet.get(r, c)),
         Call::Size => {
             let (rows, cols) = sheet.size();
-            (State::Open(sheet), Answer::Sized(rows, cols))
+            Answer::Sized(rows, cols)
         }
-        Call::Owed => {
-            let n = sheet.owed();
-            (State::Open(sheet), Answer::Count(n))
-        }
-        Call::Kept => {
-            let n = sheet.kept();
-            (State::Open(sheet), Answer::Count(n))
-        }
-        Call::Settled => (State::Open(sheet), Answer::Lacking),
-    }
+        Call::Owed => Answer::Count(sheet.owed()),
+        Call::Kept => Answer::Count(sheet.kept()),
+        Call::Reopen | Call::Settled => Answer::Lacking,
+    };
+    (State::Open(sheet), answer)
 }
 
 // One call on a sheet, open or published.
@@ -120,7 +87,7 @@ pub(crate) fn step<B: Board, K: Keep<Cell = B::Cell>>(
     lines: &[B::Cell],
     memory: &mut [B::Cell],
 ) -> (State<B, K>, Answer<B::Cell>)
-    ensures steps { (w : World B.Cell) → Holds B.Board.matrix B.Board.limits K.Keep.ordered K.Keep.store state w → w.memory ≡ memory.old → Steps B.Board.matrix B.Board.limits K.Keep.ordered K.Keep.store result.0 result.1 memory.new lines.now call w }
+    ensures steps { (w : World B.Cell) → Holds B.Board K.Keep state w → w.memory ≡ memory.old → Steps B.Board K.Keep result.0 result.1 memory.new lines.now call w }
 {
     match state {
         State::Open(sheet) => step_open(sheet, call, lines, memory),

@@ -2,7 +2,7 @@
 pub mod counts;
 
 // What a call is for, as far as the counts go.
-#[derive(Clone, Copy)]
+#[derive(Clone, Copy, Debug, PartialEq, Eq)]
 pub enum Aim {
     Editing,
     Undoing,
@@ -11,7 +11,7 @@ pub enum Aim {
 }
 
 // Edits accepted, stepped back and settled, each up to the largest number there is.
-#[derive(Clone, Copy)]
+#[derive(Clone, Copy, Debug, Default, PartialEq, Eq)]
 pub struct Tally {
     pub accepted: usize,
     pub back: usize,

@@ -1,6 +1,6 @@
 // What `--help` prints.
 
-const LINES: [&str; 34] = [
+pub const LINES: [&str; 34] = [
     "Usage: scoresheet [FILE]",
     "",
     "Reads a scorer's list from FILE, or from standard input, and prints the answer to each of its lines.",
@@ -36,10 +36,3 @@ const LINES: [&str; 34] = [
     "",
     "Status 1 if an error was printed, else 0.",
 ];
-
-pub fn print(rt: &HostRuntime) -> anyhow::Result<()> {
-    for line in LINES.iter() {
-        println!(rt; "{line}")?;
-    }
-    Ok(())
-}

@@ -1,52 +1,37 @@
 // The lines of one sheet as calls of the library.
-use crate::call::{Call as Line, Name, Wanted};
-use crate::parse;
+use desk::lines::Line;
+use listing::call::{Call as Asked, SheetKind};
 use listing::written::Written;
-use replay::call::{Call, Segment};
-use sheet::edit::Axis;
+use listing::wrong::{Failure, Wrong};
+use matrix::limits::SIDE;
+use replay::call::{Answer as Said, Call, Segment};
 use std::alloc::{AllocError, Global};
-
-pub mod unrolled;
-
-// No line of a board is longer, so that more memory for one changes no answer.
-pub const LONGEST: usize = 256;
 
 // What a line asks, and so how its answers are printed.
 #[derive(Clone, Copy)]
 pub enum Ask {
     // The row of that number under the sheet.
     Start(usize),
-    // A put, an insertion, a turn or a flip.
-    Edit,
+    // One call.
+    One,
     // A removal or a step back. A size is asked before and after it: a line that comes or goes is as long as the sizes
     // differ in cells.
-    Removal,
-    Publish,
-    Reopen,
-    Size,
-    Cell,
-    Owed,
-    Kept,
-    Settled,
+    Line,
     // The size, and then every cell.
     Show,
     // The count owed; the other counts come from the answers before.
     Tally,
-    // Not a call: a row under the sheet after its first call.
-    Late,
-    // Not a call: cell number `.0` of the line, from 1, is none of the sheet's kind.
-    NoCell(usize),
-    // Not a call of this format.
-    Expected(Wanted),
 }
 
-// A line that has an answer: its number in the list, what it asks, and its calls among those of the sheet.
+// A line that has an answer: its number in the list, what it asks or what is wrong with it, and its calls among those of the
+// sheet.
+// kept: the library takes a sheet's calls and gives their answers in one slice each, so that a line has a part of both
 #[derive(Clone, Copy)]
 pub struct Item {
-    pub line: usize,
-    pub ask: Ask,
-    pub first: usize,
-    pub count: usize,
+    pub number: usize,
+    pub ask: Result<Ask, Wrong>,
+    first: usize,
+    count: usize,
 }
 
 // The lines of a sheet, their calls, and how many cells of memory there are for the lines that come out.
@@ -64,58 +49,11 @@ pub struct Supply<T: Drop> {
     pub cells: Vec<T>,
 }
 
-// The calls that a line stands for.
-#[derive(Clone, Copy)]
-enum Meant<T> {
-    One(Ask, Call<T>),
-    Between(Call<T>),
-    Row(Segment),
-    None(Ask),
-}
-
-impl<T: Written> Plan<T> {
-    pub fn new(heap: Global, pool: usize) -> Plan<T> {
-        Plan {
-            items: Vec::new(heap),
-            calls: Vec::new(heap),
-            pool,
-        }
-    }
-
-    // A new sheet is open, so that neither of these calls is the first of its sheet: it lacks both.
-    fn is_begun(&self) -> bool {
-        for call in self.calls.iter() {
-            match *call {
-                Call::Reopen => {}
-                Call::Settled => {}
-                _ => return true,
-            }
-        }
-        false
-    }
-
-    fn one(&mut self, ask: Ask, call: Call<T>) -> Result<Ask, AllocError> {
-        self.calls.push(call)?;
-        Ok(ask)
-    }
-
-    fn between(&mut self, call: Call<T>) -> Result<Ask, AllocError> {
-        self.calls.push(Call::Size)?;
-        self.calls.push(call)?;
-        self.calls.push(Call::Size)?;
-        Ok(Ask::Removal)
-    }
-
-    // Ends a line whose calls began at `first`.
-    pub fn note(&mut self, line: usize, ask: Ask, first: usize) -> Result<(), AllocError> {
-        let count = self.calls.len().saturating_sub(first);
-        self.items.push(Item {
-            line,
-            ask,
-            first,
-            count,
-        })?;
-        Ok(())
+impl Item {
+    // The item's part of what there is for each call of the sheet.
+    pub fn of<X>(self, all: &[X]) -> &[X] {
+        let end = self.first.saturating_add(self.count);
+        all.get(self.first..end).unwrap_or(&[])
     }
 }
 
@@ -127,114 +65,206 @@ impl<T: Written> Supply<T> {
         }
     }
 
-    // The cells that words spell go to the end of the cells; or the number of the first word, from 1, that spells none.
-    fn read_cells(&mut self, words: &str) -> Result<Result<Segment, usize>, AllocError> {
+    // The cells that words spell go to the end of the cells.
+    fn read(&mut self, kind: SheetKind, words: &[&str]) -> Result<Segment, Failure> {
         let start = self.cells.len();
-        let mut len: usize = 0;
-        for word in words.split([' ', '\t']) {
-            if word.is_empty() {
-                continue;
-            }
-            len = len.saturating_add(1);
-            match T::read(word) {
-                Some(cell) => self.cells.push(cell)?,
-                None => return Ok(Err(len)),
-            }
+        for (at, word) in words.iter().enumerate() {
+            let cell = T::read(word).ok_or(Wrong::NoCell(kind, at + 1))?;
+            self.cells.push(cell)?;
         }
-        Ok(Ok(Segment { start, len }))
+        Ok(Segment {
+            start,
+            len: words.len(),
+        })
+    }
+}
+
+impl<T: Written> Plan<T> {
+    pub fn new(heap: Global, pool: usize) -> Plan<T> {
+        Plan {
+            items: Vec::new(heap),
+            calls: Vec::new(heap),
+            pool,
+        }
     }
 
-    fn meant(&mut self, call: Line<'_>) -> Result<Meant<T>, AllocError> {
+    // One more line of a sheet.
+    pub fn read(
+        &mut self,
+        supply: &mut Supply<T>,
+        kind: SheetKind,
+        line: Line<'_>,
+    ) -> Result<(), AllocError> {
+        let first = self.calls.len();
+        let asked = match line.call {
+            Ok(call) => self.asked(supply, kind, call),
+            Err(wrong) => Err(Failure::Wrong(wrong)),
+        };
+        match asked {
+            Ok(ask) => self.note(line.number, Ok(ask), first),
+            Err(Failure::Wrong(wrong)) => self.note(line.number, Err(wrong), first),
+            Err(Failure::NoMemory(error)) => Err(error),
+        }
+    }
+
+    fn asked(
+        &mut self,
+        supply: &mut Supply<T>,
+        kind: SheetKind,
+        call: Asked<'_>,
+    ) -> Result<Ask, Failure> {
         match call {
-            Line::Start(words) => self.started(words),
-            Line::Insert(axis, i, words) => self.inserted(axis, i, words),
-            Line::Put(r, c, word) => Ok(put(r, c, word)),
-            Line::Remove(axis, i, room) => Ok(Meant::Between(Call::Remove(axis, i, lent(room)))),
-            Line::StepBack(room) => Ok(Meant::Between(Call::StepBack(lent(room)))),
-            Line::Get(r, c) => Ok(Meant::One(Ask::Cell, Call::Get(r, c))),
-            Line::Alone(name) => Ok(alone(name)),
-            Line::New(_) => Ok(Meant::None(Ask::Expected(Wanted::Name))),
+            Asked::Start(words) => {
+                let row = supply.read(kind, words)?;
+                self.under(supply, row)
+            }
+            Asked::Put(r, c, word) => {
+                let cell = T::read(word).ok_or(Wrong::NoCell(kind, 1))?;
+                self.one(Call::Put(r, c, cell))
+            }
+            Asked::Insert(axis, i, words) => {
+                let line = supply.read(kind, words)?;
+                self.one(Call::Insert(axis, i, line))
+            }
+            Asked::Remove(axis, i, room) => self.between(Call::Remove(axis, i, lent(room))),
+            Asked::StepBack(room) => self.between(Call::StepBack(lent(room))),
+            Asked::Transpose => self.one(Call::Transpose),
+            Asked::Flip(axis) => self.one(Call::Flip(axis)),
+            Asked::Publish => self.one(Call::Publish),
+            Asked::Reopen => self.one(Call::Reopen),
+            Asked::Size => self.one(Call::Size),
+            Asked::Get(r, c) => self.one(Call::Get(r, c)),
+            Asked::Owed => self.one(Call::Owed),
+            Asked::Kept => self.one(Call::Kept),
+            Asked::Settled => self.one(Call::Settled),
+            Asked::Show => {
+                self.calls.push(Call::Size)?;
+                Ok(Ask::Show)
+            }
+            Asked::Tally => {
+                self.calls.push(Call::Owed)?;
+                Ok(Ask::Tally)
+            }
+            // it begins the next sheet
+            Asked::New(_) => Err(Failure::Wrong(Wrong::NoSheet)),
         }
-    }
-
-    fn started(&mut self, words: &str) -> Result<Meant<T>, AllocError> {
-        let cells = self.read_cells(words)?;
-        Ok(match cells {
-            Ok(segment) => Meant::Row(segment),
-            Err(at) => Meant::None(Ask::NoCell(at)),
-        })
-    }
-
-    fn inserted(&mut self, axis: Axis, i: usize, words: &str) -> Result<Meant<T>, AllocError> {
-        let cells = self.read_cells(words)?;
-        Ok(match cells {
-            Ok(segment) => Meant::One(Ask::Edit, Call::Insert(axis, i, segment)),
-            Err(at) => Meant::None(Ask::NoCell(at)),
-        })
     }
 
     // The row goes under the sheet, if its first call is still to come.
-    fn under(&mut self, is_begun: bool, segment: Segment) -> Result<Ask, AllocError> {
-        if is_begun {
-            return Ok(Ask::Late);
+    fn under(&self, supply: &mut Supply<T>, row: Segment) -> Result<Ask, Failure> {
+        if self.has_begun() {
+            return Err(Failure::Wrong(Wrong::Late));
         }
-        let number = self.starts.len();
-        self.starts.push(segment)?;
+        let number = supply.starts.len();
+        supply.starts.push(row)?;
         Ok(Ask::Start(number))
     }
-}
 
-// One more line of a sheet. Nothing is added where it has no word.
-pub fn read_line<T: Written>(
-    plan: &mut Plan<T>,
-    supply: &mut Supply<T>,
-    line: usize,
-    text: &str,
-) -> Result<(), AllocError> {
-    let meant = match parse::call(text) {
-        Ok(None) => return Ok(()),
-        Ok(Some(call)) => supply.meant(call)?,
-        Err(wanted) => Meant::None(Ask::Expected(wanted)),
-    };
-    let first = plan.calls.len();
-    let ask = match meant {
-        Meant::Row(segment) => supply.under(plan.is_begun(), segment)?,
-        Meant::One(ask, call) => plan.one(ask, call)?,
-        Meant::Between(call) => plan.between(call)?,
-        Meant::None(ask) => ask,
-    };
-    plan.note(line, ask, first)
-}
+    // A new sheet is open, so that neither of these calls is the first of its sheet: it lacks both.
+    fn has_begun(&self) -> bool {
+        self.calls
+            .iter()
+            .any(|call| !matches!(call, Call::Reopen | Call::Settled))
+    }
 
-fn put<T: Written>(r: usize, c: usize, word: &str) -> Meant<T> {
-    match T::read(word) {
-        Some(x) => Meant::One(Ask::Edit, Call::Put(r, c, x)),
-        None => Meant::None(Ask::NoCell(1)),
+    fn one(&mut self, call: Call<T>) -> Result<Ask, Failure> {
+        self.calls.push(call)?;
+        Ok(Ask::One)
+    }
+
+    fn between(&mut self, call: Call<T>) -> Result<Ask, Failure> {
+        self.calls.push(Call::Size)?;
+        self.calls.push(call)?;
+        self.calls.push(Call::Size)?;
+        Ok(Ask::Line)
+    }
+
+    // Ends a line whose calls began at `first`.
+    fn note(
+        &mut self,
+        number: usize,
+        ask: Result<Ask, Wrong>,
+        first: usize,
+    ) -> Result<(), AllocError> {
+        let count = self.calls.len().saturating_sub(first);
+        self.items.push(Item {
+            number,
+            ask,
+            first,
+            count,
+        })?;
+        Ok(())
+    }
+
+    // Whether a run of the plan as it stands tells all that its answers print.
+    pub fn is_unrolled(&self) -> bool {
+        !self
+            .items
+            .iter()
+            .any(|item| matches!(item.ask, Ok(Ask::Show | Ask::Line)))
+    }
+
+    // The plan once more, when a first run has told the sizes: each line that comes out has a place of its own in the memory,
+    // and every cell of a shown sheet is asked for.
+    pub fn unrolled(&self, heap: Global, said: &[Said<T>]) -> Result<Plan<T>, AllocError> {
+        let mut plan = Plan::new(heap, 0);
+        for item in self.items.iter() {
+            let first = plan.calls.len();
+            for call in item.of(self.calls.as_slice()) {
+                plan.calls.push(moved(*call, plan.pool))?;
+            }
+            match (item.ask, item.of(said)) {
+                (Ok(Ask::Show), [Said::Sized(rows, cols)]) => plan.ask_cells(*rows, *cols)?,
+                (Ok(Ask::Line), said) => {
+                    plan.pool = plan.pool.saturating_add(line_length(said));
+                }
+                _ => {}
+            }
+            plan.note(item.number, item.ask, first)?;
+        }
+        plan.pool = plan.pool.saturating_add(SIDE);
+        Ok(plan)
+    }
+
+    // Every cell of a sheet of that size, row by row.
+    // kept: a row and a column are what is asked for, and index nothing here
+    fn ask_cells(&mut self, rows: usize, cols: usize) -> Result<(), AllocError> {
+        for r in 0..rows {
+            for c in 0..cols {
+                self.calls.push(Call::Get(r, c))?;
+            }
+        }
+        Ok(())
     }
 }
 
-// Memory for a line, at the start of the pool.
+// Memory for a line, at the start of the pool. No line of a board is longer, so that more memory for one changes no answer.
 fn lent(room: usize) -> Segment {
     Segment {
         start: 0,
-        len: room.min(LONGEST),
+        len: room.min(SIDE),
     }
 }
 
-// A call that is its name alone.
-fn alone<T: Written>(name: Name) -> Meant<T> {
-    match name {
-        Name::Transpose => Meant::One(Ask::Edit, Call::Transpose),
-        Name::FlipRows => Meant::One(Ask::Edit, Call::Flip(Axis::Row)),
-        Name::FlipCols => Meant::One(Ask::Edit, Call::Flip(Axis::Col)),
-        Name::Publish => Meant::One(Ask::Publish, Call::Publish),
-        Name::Reopen => Meant::One(Ask::Reopen, Call::Reopen),
-        Name::Size => Meant::One(Ask::Size, Call::Size),
-        Name::Owed => Meant::One(Ask::Owed, Call::Owed),
-        Name::Kept => Meant::One(Ask::Kept, Call::Kept),
-        Name::Settled => Meant::One(Ask::Settled, Call::Settled),
-        Name::Show => Meant::One(Ask::Show, Call::Size),
-        Name::Tally => Meant::One(Ask::Tally, Call::Owed),
-        _ => Meant::None(Ask::Expected(Wanted::Usage(name))),
+// The same call with its memory from `start` on.
+fn moved<T: Written>(call: Call<T>, start: usize) -> Call<T> {
+    match call {
+        Call::Remove(axis, i, Segment { len, .. }) => Call::Remove(axis, i, Segment { start, len }),
+        Call::StepBack(Segment { len, .. }) => Call::StepBack(Segment { start, len }),
+        _ => call,
+    }
+}
+
+// How long the line is that came or went by the call between two sizes.
+pub fn line_length<T: Written>(said: &[Said<T>]) -> usize {
+    match said {
+        [
+            Said::Sized(rows, cols),
+            _,
+            Said::Sized(rows_after, cols_after),
+        ] => rows
+            .saturating_mul(*cols)
+            .abs_diff(rows_after.saturating_mul(*cols_after)),
+        _ => 0,
     }
 }

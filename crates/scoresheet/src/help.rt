@@ -1,6 +1,6 @@
 // What `--help` prints.
 
-const LINES: [&str; 29] = [
+pub const LINES: [&str; 29] = [
     "Usage: scoresheet [FILE]",
     "",
     "Reads a scorer's list from FILE, or from standard input, and prints the answer to each of its lines.",
@@ -31,10 +31,3 @@ const LINES: [&str; 29] = [
     "The calls step-back, publish, reopen, owed, kept, settled and tally are not here yet: each answers error.",
     "Status 1 if an error was printed, else 0.",
 ];
-
-pub fn print(rt: &HostRuntime) -> anyhow::Result<()> {
-    for line in LINES.iter() {
-        println!(rt; "{line}")?;
-    }
-    Ok(())
-}

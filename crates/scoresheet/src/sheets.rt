@@ -1,163 +1,189 @@
-// The sheets of a list, one after another.
-ghost use Rattle.std.specs.Prelude.{◌≡◌, ◌*◌, ◌%◌, ◌≤◌};
+// The sheets of a list.
+ghost use Rattle.std.specs.Prelude.{⊤};
 
-use crate::answers::{Answer, Answers};
-use crate::call::{Call, Ground, SheetKind};
-use crate::entries;
-use crate::entries::{Entry, Fresh};
 use boards::board::Board;
-use boards::turned::TurnedBoard;
-use cells::kinds::{Kind, Passage, Penalty};
-use grid::grid::Grid;
-use grid::grid::making::from_vec_check;
+use cells::kinds::Kind;
+use desk::lines::Line;
+use desk::output::Output;
+use desk::sheets::Sheets;
+use layouts::over::{Work, cells_under, over};
+use listing::answer::{Answer, Cells};
+use listing::call::{Call, Fresh, SheetKind};
+use listing::name::Name;
 use listing::written::Written;
-use seats::board::SeatBoard;
-use seats::board::making::seats_check;
+use listing::wrong::{Failure, Wrong};
+use matrix::axis::Axis;
+use matrix::limits::SIDE;
 use std::alloc::Global;
 
-mod calls;
+// Sheets that do not step back yet.
+pub struct Plain;
 
-// The most seats to a side.
-const SIDE: usize = 256;
-
-// Answers every line. A sheet answers its own lines, up to the one that begins the next.
-pub fn run(out: &mut Answers<'_>, heap: Global, lines: &[&str]) -> anyhow::Result<()> {
-    let mut next = 0;
-    for at in 0..lines.len() {
-        if at < next {
-            continue;
-        }
-        next = at + 1;
-        match entries::read(lines[at]) {
-            Entry::Nothing => {}
-            Entry::New(fresh) => next = sheet(out, heap, lines, next, fresh)?,
-            Entry::Call(_) => out.error(next, "no sheet: begin with new")?,
-            Entry::Expected(what) => out.expected(next, what)?,
-            Entry::NotHere(text) => out.error(next, text)?,
-        }
+impl Sheets for Plain {
+    // Makes the board, and answers the lines on it.
+    fn answer<'a, T: Written>(
+        out: Output<'a>,
+        heap: Global,
+        fresh: Fresh,
+        lines: &'a [Line<'a>],
+    ) -> anyhow::Result<Output<'a>> {
+        let mut memory = vec![in heap; T::blank(); cells_under(fresh.layout.ground)]?;
+        let sheet = Sheet {
+            out,
+            heap,
+            kind: fresh.kind,
+            has_begun: false,
+            lines,
+        };
+        over::<T, Sheet<'a>>(fresh.layout, memory.as_mut_slice(), sheet)
     }
-    Ok(())
-}
 
-// Makes a sheet and answers the lines from `from` on. The result is the index of the first line that is not the sheet's.
-fn sheet(
-    out: &mut Answers<'_>,
-    heap: Global,
-    lines: &[&str],
-    from: usize,
-    fresh: Fresh,
-) -> anyhow::Result<usize> {
-    match fresh.kind {
-        SheetKind::Passages => grounded::<Passage>(out, heap, lines, from, fresh),
-        SheetKind::Penalties => grounded::<Penalty>(out, heap, lines, from, fresh),
-    }
-}
-
-// Hands the ground its memory, and refuses where the ground would.
-fn grounded<T: Written>(
-    out: &mut Answers<'_>,
-    heap: Global,
-    lines: &[&str],
-    from: usize,
-    fresh: Fresh,
-) -> anyhow::Result<usize> {
-    match fresh.layout.ground {
-        Ground::Grid(order, cells) => {
-            if let Err(refusal) = from_vec_check(cells, 0, 0) {
-                out.refused(refusal)?;
-                return Ok(from);
-            }
-            let mut memory = vec![in heap; T::blank(); cells]?;
-            let grid = Grid::from_vec_with_order(memory.as_mut_slice(), 0, 0, order);
-            turned::<T, Grid<'_, T>>(out, heap, lines, from, fresh, grid)
-        }
-        Ground::Seats(side) => {
-            let cells = seat_cells(side);
-            if let Err(refusal) = seats_check(cells, side) {
-                out.refused(refusal)?;
-                return Ok(from);
-            }
-            let mut memory = vec![in heap; T::blank(); cells]?;
-            let seats = SeatBoard::new(memory.as_mut_slice(), side);
-            turned::<T, SeatBoard<'_, T>>(out, heap, lines, from, fresh, seats)
+    fn lacking(call: Call<'_>) -> Wrong {
+        match call {
+            Call::StepBack(_) => Wrong::NotYet(Name::StepBack),
+            Call::Publish => Wrong::NotYet(Name::Publish),
+            Call::Reopen => Wrong::NotYet(Name::Reopen),
+            Call::Owed => Wrong::NotYet(Name::Owed),
+            Call::Kept => Wrong::NotYet(Name::Kept),
+            Call::Settled => Wrong::NotYet(Name::Settled),
+            Call::Tally => Wrong::NotYet(Name::Tally),
+            _ => Wrong::NoSheet,
         }
     }
 }
 
-// How many cells of memory a seat board is handed: none where no memory would do.
-fn seat_cells(side: usize) -> usize
-    ensures square { side ≤ 256 → result ≡ side * side }
-{
-    if side <= SIDE { side * side } else { 0 }
-}
-
-// How many times a board is turned in the program, for the times that a list says. A board that is turned twice is itself
-// again, and a type says how often its board is turned, so that the count loses two as long as it is above two.
-fn fewest(turns: usize) -> usize
-    ensures few { result ≤ 2 }
-    ensures parity { result % 2 ≡ turns % 2 }
-{
-    if turns <= 2 { turns } else { 2 - turns % 2 }
-}
-
-// Turns a ground as often as its sheet says.
-fn turned<T: Written, B: Board<Cell = T> + Drop>(
-    out: &mut Answers<'_>,
+// A sheet, and the lines that it answers.
+#[derive(Drop)]
+struct Sheet<'a> {
+    out: Output<'a>,
     heap: Global,
-    lines: &[&str],
-    from: usize,
-    fresh: Fresh,
-    ground: B,
-) -> anyhow::Result<usize> {
-    match fewest(fresh.layout.turns) {
-        0 => on_board::<T, B>(out, heap, lines, from, fresh.kind, ground),
-        1 => {
-            let once = TurnedBoard::over(ground);
-            on_board::<T, TurnedBoard<B>>(out, heap, lines, from, fresh.kind, once)
-        }
-        _ => {
-            let twice = TurnedBoard::over(TurnedBoard::over(ground));
-            on_board::<T, TurnedBoard<TurnedBoard<B>>>(out, heap, lines, from, fresh.kind, twice)
-        }
-    }
-}
-
-// A sheet on its board, which is empty.
-fn on_board<T: Written, B: Board<Cell = T> + Drop>(
-    out: &mut Answers<'_>,
-    heap: Global,
-    lines: &[&str],
-    from: usize,
     kind: SheetKind,
-    mut board: B,
-) -> anyhow::Result<usize> {
-    out.accepted()?;
-    let mut has_begun = false;
-    for at in from..lines.len() {
-        match entries::read(lines[at]) {
-            Entry::Nothing => {}
-            Entry::New(_) => return Ok(at),
-            Entry::Call(Call::Start(_)) if has_begun => {
-                out.error(at + 1, "start: the sheet's first call was made")?
-            }
-            Entry::Call(call) => {
-                let answer = calls::answer::<T, B>(heap, &mut board, call)?;
-                has_begun = has_begun || begins(call, &answer);
-                out.tell::<T, B>(heap, kind, at + 1, answer, &board)?;
-            }
-            Entry::Expected(what) => out.expected(at + 1, what)?,
-            Entry::NotHere(text) => out.error(at + 1, text)?,
-        }
-    }
-    Ok(lines.len())
+    // kept: a plain yes or no, with no value that goes with it
+    has_begun: bool,
+    lines: &'a [Line<'a>],
 }
 
-// Whether the sheet's calls begin with this one: not with a start, nor with a line that was an error.
-fn begins<T: Written>(call: Call<'_>, answer: &Answer<T>) -> bool {
-    match (call, answer) {
-        (Call::Start(_), _) => false,
-        (_, Answer::NoCell(_)) => false,
-        (_, Answer::NotHere) => false,
-        _ => true,
+impl<'a, T: Written> Work<T> for Sheet<'a> {
+    type Out = anyhow::Result<Output<'a>>;
+
+    // nothing is promised of it
+    ghost gives = { λ _ _ _ _. ⊤ };
+
+    // Answers the lines on the sheet's board.
+    fn on<B: Board<Cell = T> + Drop>(mut self, mut board: B) -> anyhow::Result<Output<'a>> {
+        let mut memory = vec![in self.heap; T::blank(); SIDE]?;
+        let lines = self.lines;
+        for line in lines {
+            self.line::<T, B>(&mut board, memory.as_mut_slice(), *line)?;
+        }
+        Ok(self.out)
+    }
+}
+
+impl<'a> Sheet<'a> {
+    // Answers a line.
+    fn line<T: Written, B: Board<Cell = T>>(
+        &mut self,
+        board: &mut B,
+        memory: &mut [T],
+        line: Line<'_>,
+    ) -> anyhow::Result<()> {
+        match self.answered::<T, B>(board, memory, line) {
+            Ok(answer) => self.out.answer(answer)?,
+            Err(Failure::Wrong(wrong)) => return self.out.error(line.number, wrong),
+            Err(Failure::NoMemory(error)) => return Err(error.into()),
+        }
+        match line.call {
+            Ok(Call::Start(_)) => {}
+            Ok(Call::Show) => {
+                self.has_begun = true;
+                self.rows::<T, B>(board)?;
+            }
+            _ => self.has_begun = true,
+        }
+        Ok(())
+    }
+
+    // Makes the call on the board, or asks it. A line that comes out stands in the memory.
+    fn answered<'m, T: Written, B: Board<Cell = T>>(
+        &self,
+        board: &mut B,
+        memory: &'m mut [T],
+        line: Line<'_>,
+    ) -> Result<Answer<'m, T>, Failure> {
+        match line.call? {
+            Call::Start(_) if self.has_begun => Err(Failure::Wrong(Wrong::Late)),
+            Call::Start(words) => {
+                let (last, _) = board.size();
+                let line = self.cells::<T>(words)?;
+                Ok(Answer::Done(board.insert(Axis::Row, last, line.as_slice())))
+            }
+            Call::Put(r, c, word) => {
+                let cell = T::read(word).ok_or(Wrong::NoCell(self.kind, 1))?;
+                Ok(Answer::Done(board.put(r, c, cell)))
+            }
+            Call::Insert(axis, i, words) => {
+                let line = self.cells::<T>(words)?;
+                Ok(Answer::Done(board.insert(axis, i, line.as_slice())))
+            }
+            Call::Remove(axis, i, room) => Ok(removed::<T, B>(board, memory, axis, i, room)),
+            Call::Transpose => {
+                board.transpose();
+                Ok(Answer::Done(Ok(())))
+            }
+            Call::Flip(axis) => {
+                board.flip(axis);
+                Ok(Answer::Done(Ok(())))
+            }
+            Call::Size | Call::Show => {
+                let (rows, cols) = board.size();
+                Ok(Answer::Size(rows, cols))
+            }
+            Call::Get(r, c) => Ok(Answer::Cell(board.get(r, c))),
+            call => Err(Failure::Wrong(Plain::lacking(call))),
+        }
+    }
+
+    // The cells that the words spell.
+    fn cells<T: Written>(&self, words: &[&str]) -> Result<Vec<T>, Failure> {
+        let mut cells = Vec::new(self.heap);
+        for (at, word) in words.iter().enumerate() {
+            let cell = T::read(word).ok_or(Wrong::NoCell(self.kind, at + 1))?;
+            cells.push(cell)?;
+        }
+        Ok(cells)
+    }
+
+    // Every row of the board.
+    // kept: a row and a column are what is asked for, and index nothing here
+    fn rows<T: Written, B: Board<Cell = T>>(&self, board: &B) -> anyhow::Result<()> {
+        let (rows, cols) = board.size();
+        for r in 0..rows {
+            let row: Vec<T> = (0..cols)
+                .filter_map(|c| board.get(r, c))
+                .collect(self.heap)?;
+            self.out.answer(Answer::Row(Cells(row.as_slice())))?;
+        }
+        Ok(())
+    }
+}
+
+// Takes a line off the board, into as many cells of the memory as there are for it.
+fn removed<'m, T: Written, B: Board<Cell = T>>(
+    board: &mut B,
+    memory: &'m mut [T],
+    axis: Axis,
+    i: usize,
+    room: usize,
+) -> Answer<'m, T> {
+    let (rows, cols) = board.size();
+    let length = match axis {
+        Axis::Row => cols,
+        Axis::Col => rows,
+    };
+    let room = room.min(memory.len());
+    match board.remove(axis, i, &mut memory[..room]) {
+        Ok(()) => Answer::Line(Cells(&memory[..length.min(memory.len())])),
+        Err(refusal) => Answer::Done(Err(refusal)),
     }
 }

@@ -1,9 +1,12 @@
 -- What every board owes, shown of cells on seats.
-use Rattle.std.proofs.Common.{◌≡◌, ℕ, ◌*◌, ◌<◌, ◌≤◌, Bool, true, false, List, length, get_or, Some, sym, ◌∙◌, ⊎_elim, mul-le-mul, arith}
+use Rattle.std.proofs.Common.{◌≡◌, ℕ, ◌*◌, ◌<◌, ◌≤◌, List, length, get_or, Some, sym, ◌∙◌, ⊎_elim, mul-le-mul, arith}
 use Rattle.std.specs.List.{slice_get}
 use Rattle.std.proofs.lemmas.Option.{slice_get-get_or}
 use Rattle.std.proofs.lemmas.Bool.{cases_lt}
 use Rattle.std.proofs.lemmas.Bool.Decides.{nat_tests}
+use Rattle.matrix.specs.declared.axis.Axis.{Axis}
+use Rattle.matrix.specs.declared.axis.Axis.TheVariants.{Row, Col}
+use Rattle.matrix.specs.Axes.{along}
 use Rattle.matrix.specs.Rules.{Within}
 use Rattle.matrix.proofs.Cells.{present}
 use Rattle.matrix.proofs.Held.{within_turned}
@@ -11,12 +14,12 @@ use Rattle.matrix.proofs.Products.{line_ends, sides_within}
 use Rattle.matrix.proofs.Whole.{inside_in, inside_below, inside_right}
 use Rattle.seating.specs.declared.seating.Seating.{Seating}
 use Rattle.seating.specs.Benches.{seat}
-use Rattle.seating.specs.Seats.{spot, counted, seated, seated_limits, facing, spot_of}
+use Rattle.seating.specs.Seats.{spot, counted, seated, seated_limits, spot_of}
 use Rattle.seating.proofs.Fits.{counted_in, counted_out}
 
-pub spot_within : (crossed : Bool) (side a b : ℕ) → a < side → b < side → spot crossed side a b < side * side
-spot_within true side a b ha hb = omega (arith, line_ends b side side hb)
-spot_within false side a b ha hb = omega (arith, line_ends a side side ha)
+pub spot_within : (lying : Axis) (side a b : ℕ) → a < side → b < side → spot lying side a b < side * side
+spot_within Row side a b ha hb = omega (arith, line_ends a side side ha)
+spot_within Col side a b ha hb = omega (arith, line_ends b side side hb)
 
 module _ {T : Type 0} (s : Seating) (xs : List T) where
   abbrev R : ℕ
@@ -36,7 +39,7 @@ module _ {T : Type 0} (s : Seating) (xs : List T) where
       let cs = s.across.small.1 in
       let a = s.down.below r (omega arith) in
       let b = s.across.below c (omega arith) in
-      let l : spot_of s r c < length xs = omega (arith, spot_within s.crossed s.down.side (seat s.down r) (seat s.across c) a (omega arith)) in
+      let l : spot_of s r c < length xs = omega (arith, spot_within s.lying s.down.side (seat s.down r) (seat s.across c) a (omega arith)) in
       let d = present xs (spot_of s r c) l in
       (get_or xs (spot_of s r c) d, inside_in R C r c (slice_get xs (spot_of s r c)) hr hc ∙ slice_get-get_or xs (spot_of s r c) d l))
       (cases_lt (length xs) (s.down.side * s.down.side))
@@ -78,6 +81,6 @@ module _ {T : Type 0} (s : Seating) (xs : List T) where
         room = mul-le-mul tall wide;
       }
 
-pub facing_within : {T : Type 0} (turned : Bool) (s : Seating) (xs : List T) → Within (seated_limits s (length xs)) (facing turned (seated s xs))
-facing_within true s xs = within_turned (seated_within s xs)
-facing_within false s xs = seated_within s xs
+pub along_within : {T : Type 0} (ax : Axis) (s : Seating) (xs : List T) → Within (seated_limits s (length xs)) (along ax (seated s xs))
+along_within Row s xs = seated_within s xs
+along_within Col s xs = within_turned (seated_within s xs)

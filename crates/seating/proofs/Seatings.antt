@@ -1,13 +1,15 @@
 -- What the tables pick out of the cells when a row comes and when one goes.
 use Rattle.std.proofs.Common.{◌≡◌, ℕ, ◌+◌, ◌-◌, ◌<◌, ◌≤◌, List, length, get_or, sym, ap, ◌∙◌, ⊎_elim, arith}
 use Rattle.std.specs.List.{slice_get}
+use Rattle.std.proofs.lemmas.Option.{slice_get_past}
 use Rattle.std.proofs.lemmas.Bool.{cases_lt, cases_order}
-use Rattle.matrix.specs.Matrix.{Matrix, insert_row, remove_row, spliced, skipped, left_across}
+use Rattle.matrix.specs.Matrix.{Matrix, row, listed, insert_row, remove_row, skipped}
 use Rattle.matrix.proofs.Cells.{spliced_below, spliced_at, spliced_above, skipped_below, skipped_above}
+use Rattle.matrix.proofs.Undo.{listed_nth, listed_same}
 use Rattle.matrix.proofs.Whole.{Whole, same_inside, inside_in, inside_below, inside_right, whole_insert_row, whole_remove_row, across_stays}
 use Rattle.seating.specs.declared.seating.Seating.{Seating}
 use Rattle.seating.specs.Benches.{seat}
-use Rattle.seating.specs.Seats.{spot, seen, spot_of}
+use Rattle.seating.specs.Seats.{spot, seen, spot_of, Opened, Closed}
 use Rattle.seating.specs.Lines.{Written}
 use Rattle.seating.proofs.Spots.{seats_apart}
 
@@ -20,22 +22,24 @@ whole_seen s xs = record {
 pub seen_in : {T : Type 0} (s : Seating) (xs : List T) (r c : ℕ) → r < s.down.count → c < s.across.count → (seen s xs).cell r c ≡ slice_get xs (spot_of s r c)
 seen_in s xs r c hr hc = inside_in s.down.count s.across.count r c (slice_get xs (spot_of s r c)) hr hc
 
+-- a list of the cells of row i is the row
+pub row_seen : {T : Type 0} (s : Seating) (xs : List T) (i : ℕ) (line : List T) → i < s.down.count → length line ≡ s.across.count → ((k : ℕ) → k < s.across.count → slice_get line k ≡ slice_get xs (spot_of s i k)) → line ≡ row i (seen s xs)
+row_seen s xs i line hi all taken =
+    sym (listed_nth line)
+    ∙ ap (λ n. listed n (slice_get line)) all
+    ∙ listed_same s.across.count (slice_get line) ((seen s xs).cell i)
+    (λ k. ⊎_elim
+    (λ (h : k < s.across.count). taken k h ∙ sym (seen_in s xs i k hi h))
+    (λ (h : s.across.count ≤ k). slice_get_past line k (omega arith) ∙ sym (inside_right s.down.count s.across.count i k (slice_get xs (spot_of s i k)) h))
+    (cases_lt k s.across.count))
+
 -- rows on one seat have their cells at one place
-same_spot : (old new : Seating) (r k c : ℕ) → new.crossed ≡ old.crossed → new.down.side ≡ old.down.side → new.across.table ≡ old.across.table → seat new.down r ≡ seat old.down k → spot_of new r c ≡ spot_of old k c
+same_spot : (old new : Seating) (r k c : ℕ) → new.lying ≡ old.lying → new.down.side ≡ old.down.side → new.across.table ≡ old.across.table → seat new.down r ≡ seat old.down k → spot_of new r c ≡ spot_of old k c
 same_spot old new r k c x s t e =
     ap (λ z. spot z new.down.side (seat new.down r) (seat new.across c)) x
-    ∙ ap (λ z. spot old.crossed z (seat new.down r) (seat new.across c)) s
-    ∙ ap (λ z. spot old.crossed old.down.side z (seat new.across c)) e
-    ∙ ap (λ z. spot old.crossed old.down.side (seat old.down k) (get_or z c 0)) t
-
--- new is old with row i on a seat that was free, and the line written there
-pub record Opened (old new : Seating) (i n : ℕ) : Type 0 where
-  pub seats : (k : ℕ) → k < old.down.count + 1 → seat new.down k ≡ spliced i (seat old.down old.down.count) (λ j. seat old.down j) k
-  pub rows : new.down.count ≡ old.down.count + 1
-  pub side : new.down.side ≡ old.down.side
-  pub across : new.across.table ≡ old.across.table
-  pub cols : new.across.count ≡ n
-  pub crossed : new.crossed ≡ old.crossed
+    ∙ ap (λ z. spot old.lying z (seat new.down r) (seat new.across c)) s
+    ∙ ap (λ z. spot old.lying old.down.side z (seat new.across c)) e
+    ∙ ap (λ z. spot old.lying old.down.side (seat old.down k) (get_or z c 0)) t
 
 module _ {T : Type 0} (old new : Seating) (i : ℕ) (line xs ys : List T) (o : Opened old new i (length line)) (w : Written new i line (length line) xs ys)
     (hi : i ≤ old.down.count) (fits : 0 < old.down.count → length line ≡ old.across.count) (tall : old.down.count + 1 ≤ old.down.side) (wide : length line ≤ old.down.side) where
@@ -45,7 +49,7 @@ module _ {T : Type 0} (old new : Seating) (i : ℕ) (line xs ys : List T) (o : O
       let side = o.side in
       let f = fits (omega arith) in
       w.rest (spot_of new r c) (λ j l z. ne (seats_apart new r c i j (omega arith) (omega arith) (omega arith) (omega arith) z).0)
-      ∙ ap (slice_get xs) (same_spot old new r k c o.crossed side o.across e) ∙ sym (seen_in old xs k c hk (omega arith))
+      ∙ ap (slice_get xs) (same_spot old new r k c o.lying side o.across e) ∙ sym (seen_in old xs k c hk (omega arith))
 
   pub opened_seen : seen new ys ≡ insert_row i line (seen old xs)
   opened_seen = same_inside (seen new ys) (insert_row i line m) (whole_seen new ys) (whole_insert_row i line m hi fits (whole_seen old xs)) o.rows o.cols
@@ -62,22 +66,13 @@ module _ {T : Type 0} (old new : Seating) (i : ℕ) (line xs ys : List T) (o : O
       m : Matrix T
       m = seen old xs
 
--- new is old without row i
-pub record Closed (old new : Seating) (i : ℕ) : Type 0 where
-  pub seats : (k : ℕ) → k < old.down.count - 1 → seat new.down k ≡ seat old.down (skipped i k)
-  pub rows : new.down.count ≡ old.down.count - 1
-  pub side : new.down.side ≡ old.down.side
-  pub across : new.across.table ≡ old.across.table
-  pub cols : new.across.count ≡ left_across old.down.count old.across.count
-  pub crossed : new.crossed ≡ old.crossed
-
 pub closed_seen : {T : Type 0} (old new : Seating) (i : ℕ) (xs : List T) → i < old.down.count → Closed old new i → seen new xs ≡ remove_row i (seen old xs)
 closed_seen {T} old new i xs hi o = same_inside (seen new xs) (remove_row i m) (whole_seen new xs) (whole_remove_row i m hi (whole_seen old xs)) o.rows o.cols
     (λ r c hr hc.
     let rows = o.rows in
     let cols = o.cols in
     let stays = across_stays old.down.count old.across.count (omega arith) in
-    seen_in new xs r c hr hc ∙ ap (slice_get xs) (same_spot old new r (skipped i r) c o.crossed o.side o.across (o.seats r (omega arith))) ∙ sym (seen_in old xs (skipped i r) c (skips r (omega arith)) (omega arith)))
+    seen_in new xs r c hr hc ∙ ap (slice_get xs) (same_spot old new r (skipped i r) c o.lying o.side o.across (o.seats r (omega arith))) ∙ sym (seen_in old xs (skipped i r) c (skips r (omega arith)) (omega arith)))
   where
     m : Matrix T
     m = seen old xs

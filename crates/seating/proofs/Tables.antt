@@ -1,7 +1,7 @@
 -- Tables in which each seat stands once, and stays so when their entries change places.
-use Rattle.std.proofs.Common.{◌≡◌, ℕ, ◌+◌, ◌-◌, ◌<◌, ◌≤◌, cond, ltb, List, reverse, length, get_or, take, drop, set, sym, ap, ◌∙◌, ⊎_elim, arith}
-use Rattle.std.proofs.lemmas.List.{get_or-set_same, get_or-set_other, get_or_append_left, get_or-append_right, get_or-reverse, get_or-take, get_or-drop, length-take-le, length-reverse}
-use Rattle.std.proofs.lemmas.Bool.{cases_lt, cases_eq, cases_order}
+use Rattle.std.proofs.Common.{◌≡◌, ℕ, ◌+◌, ◌-◌, ◌<◌, ◌≤◌, cond, ltb, List, reverse, length, get_or, take, drop, sym, ap, ◌∙◌, ⊎_elim, arith}
+use Rattle.std.proofs.lemmas.List.{get_or_append_left, get_or-append_right, get_or-reverse, get_or-take, get_or-drop, length-take-le, length-reverse}
+use Rattle.std.proofs.lemmas.Bool.{cases_lt, cases_order}
 use Rattle.std.proofs.lemmas.Bool.Decides.{nat_tests}
 use Rattle.matrix.specs.Matrix.{spliced}
 use Rattle.matrix.proofs.Cells.{spliced_below, spliced_at, spliced_above}
@@ -99,10 +99,3 @@ own_below side t own h k l = let e = own k (omega arith) in omega arith
 
 pub own_once : (side : ℕ) (t : List ℕ) → ((k : ℕ) → k < 256 → get_or t k 0 ≡ k) → side ≤ 256 → Once side t
 own_once side t own h j k l = sym (own j (omega (arith, l.0))) ∙ l.2 ∙ own k (omega (arith, l.1))
-
--- one seat more in its own place
-pub own_more : (t : List ℕ) (n : ℕ) → n < length t → ((j : ℕ) → j < n → get_or t j 0 ≡ j) → (j : ℕ) → j < n + 1 → get_or (set t n n) j 0 ≡ j
-own_more t n h own j l = ⊎_elim
-    (λ (e : j ≡ n). ap (λ i. get_or (set t n n) i 0) e ∙ get_or-set_same t n n 0 h ∙ sym e)
-    (λ (e : j ≡ n → ⊥). get_or-set_other t n j n 0 e ∙ own j (omega arith))
-    (cases_eq j n)

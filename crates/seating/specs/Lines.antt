@@ -1,13 +1,15 @@
 -- What a line written onto its seats leaves.
-use Rattle.std.specs.Prelude.{◌≡◌, ℕ, ◌<◌, Bool, true, false, List, length, Ok, Err, Result, ◌≢◌}
+use Rattle.std.specs.Prelude.{◌≡◌, ℕ, ◌<◌, List, length, Ok, Err, Result, ◌≢◌}
 use Rattle.std.specs.List.{slice_get}
+use Rattle.matrix.specs.declared.axis.Axis.{Axis}
+use Rattle.matrix.specs.declared.axis.Axis.TheVariants.{Row, Col}
 use Rattle.seating.specs.declared.seating.Seating.{Seating}
 use Rattle.seating.specs.Seats.{spot_of}
 
--- the flat places of a line's cells: of row i, and of column i where `across`
-abbrev pub line_spots : Bool → ℕ → Seating → ℕ → ℕ
-line_spots true i s = λ c. spot_of s c i
-line_spots false i s = λ c. spot_of s i c
+-- the flat places of the cells of line i along an axis
+abbrev pub line_spots : Axis → ℕ → Seating → ℕ → ℕ
+line_spots Row i s = λ c. spot_of s i c
+line_spots Col i s = λ c. spot_of s c i
 
 -- the first n cells of the line lie on the seats of row i, and no other cell has changed: ys is what xs has become
 pub record Written {T : Type 0} (s : Seating) (i : ℕ) (line : List T) (n : ℕ) (xs ys : List T) : Type 0 where

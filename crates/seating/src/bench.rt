@@ -1,6 +1,8 @@
 // What a bench is.
 ghost use Rattle.std.specs.Prelude.{◌≡◌, ℕ, ◌<◌, ◌≤◌, length, slice_index};
 
+use matrix::limits::SIDE;
+
 pub mod calls;
 
 // The seats of the rows, or of the columns. Each of `side` seats stands once in the table: those of the `count` lines
@@ -9,7 +11,8 @@ pub mod calls;
 pub struct Bench {
     pub(crate) side: usize,
     pub(crate) count: usize,
-    pub(crate) table: [u16; 256],
+    // kept: no heap, so the table has room for every seat that a side may have
+    pub(crate) table: [u16; SIDE],
     ghost small: { (side ≤ 256) × (count ≤ side) },
     ghost long: { length table ≡ 256 },
     ghost below: { (i : ℕ) → i < side → slice_index table i < side },

@@ -1,5 +1,5 @@
 -- The agreement after a step back.
-use Rattle.std.proofs.Common.{◌≡◌, ℕ, ◌<◌, ◌≤◌, ltb, List, [], ◌∷◌, ◌++◌, length, take, Some, None, Ok, Err, Option, Result, sym, refl, ap, ◌∙◌, subst, arith, le-ltb, lt-ltb}
+use Rattle.std.proofs.Common.{◌≡◌, ℕ, ◌<◌, ◌≤◌, ltb, List, [], ◌∷◌, ◌++◌, length, Some, None, Ok, Err, Option, Result, sym, refl, ap, ◌∙◌, subst, arith, le-ltb, lt-ltb}
 use Rattle.std.proofs.lemmas.List.{append-nil}
 use Rattle.cells.specs.declared.refusal.Refusal.{Refusal}
 use Rattle.cells.specs.declared.refusal.Refusal.TheVariants.{NothingOwed, Short}
@@ -8,13 +8,16 @@ use Rattle.matrix.specs.declared.limits.Limits.{Limits}
 use Rattle.matrix.specs.Matrix.{Matrix, put_cell, over}
 use Rattle.keeps.specs.Kept.{Store, holding, newest, older, taken}
 use Rattle.keeps.proofs.Newest.{newest_last, older_last}
-use Rattle.keeps.proofs.Pulls.{some_some, none_some}
+use Rattle.std.proofs.lemmas.Option.{none-some, same_Some}
 use Rattle.matrix.specs.Rules.{put_answer, remove_answer}
 use Rattle.std.proofs.lemmas.Bool.Decides.{nat_tests}
-use Rattle.sheet.specs.declared.edit.Axis.{Axis}
+use Rattle.matrix.specs.declared.axis.Axis.{Axis}
 use Rattle.sheet.specs.declared.edit.Edit.{Edit}
 use Rattle.sheet.specs.declared.edit.Edit.TheVariants.{Put, Insert, Remove}
-use Rattle.sheet.specs.Axes.{along, inserted, removed, line_of, insert_along, remove_along}
+use Rattle.matrix.specs.Axes.{along, inserted, removed, line_of, insert_along, remove_along}
+use Rattle.boards.specs.declared.board.Board.{Ghosts as Board}
+use Rattle.keeps.specs.declared.keep.Keep.{Ghosts as Keep}
+use Rattle.sheet.specs.declared.sheets.OpenSheet.{OpenSheet}
 use Rattle.sheet.specs.Book.{Book, Entry, kept, edits, span, struck, by_newest, handed_back, back_said, back_book, back_memory}
 use Rattle.sheet.specs.Stands.{Agrees, Undoable, undone, Past}
 
@@ -26,8 +29,8 @@ pub record Newest {T : Type 0} (b : Book T) (e : Edit) : Type 0 where
   pub edit : entry.edit ≡ e
 
 newest_entry : {T : Type 0} (es : List (Entry T)) (e : Edit) → Some e ≡ newest (edits es) → (x : Entry T) × ((xs : List (Entry T)) × ((es ≡ x ∷ xs) × (x.edit ≡ e)))
-newest_entry [] e p = absurd (none_some e (sym p))
-newest_entry (x ∷ xs) e p = (x, (xs, (refl, sym (some_some e x.edit (p ∙ newest_last (edits xs) x.edit)))))
+newest_entry [] e p = absurd (none-some e (sym p))
+newest_entry (x ∷ xs) e p = (x, (xs, (refl, sym (same_Some e x.edit (p ∙ newest_last (edits xs) x.edit)))))
 
 module _ {T : Type 0} {ko : Type 0} {m : Matrix T} {l : Limits} {k : Store T} {js : List Edit} {b : Book T} (h : Agrees ko m l k js b) where
   pub is_newest : (e : Edit) → Some e ≡ newest js → Newest b e
@@ -37,7 +40,7 @@ module _ {T : Type 0} {ko : Type 0} {m : Matrix T} {l : Limits} {k : Store T} {j
 
   none_owed : (es : List (Entry T)) → None ≡ newest (edits es) → es ≡ []
   none_owed [] p = refl
-  none_owed (x ∷ xs) p = absurd (none_some x.edit (p ∙ newest_last (edits xs) x.edit))
+  none_owed (x ∷ xs) p = absurd (none-some x.edit (p ∙ newest_last (edits xs) x.edit))
 
   pub back_nothing : (memory : List T) → None ≡ newest js → ((Err NothingOwed ≡ back_said memory b) × Agrees ko m l k js (back_book memory b)) × (memory ≡ back_memory memory b)
   back_nothing memory p =
@@ -144,16 +147,15 @@ module _ {T : Type 0} {ko : Type 0} {m : Matrix T} {l : Limits} {k : Store T} {j
   undo_put r c nw q old o oa ek qa qe el ej =
       let can = can_undo h (Put r c) nw memory in
       let was = put_cell_back r c nw (Some old) oa in
-      let same : old ≡ was.0 = some_some old was.0 was.1.0 in
+      let same : old ≡ was.0 = same_Some old was.0 was.1.0 in
       let yes : q ≡ Ok tt = qa ∙ ap (put_answer r c) h.matrix ∙ can.0 in
       back_done h (Put r c) nw memory (omega arith) o
       (qe ∙ ap (λ z. answered z (put_cell r c old m) m) yes ∙ ap (put_cell r c old) h.matrix ∙ ap (λ z. put_cell r c z b.matrix) same ∙ ap (λ ys. undone (Put r c) ys b.matrix) (sym was.1.1.0))
       el (ek ∙ (λ i. record { cells = was.1.1.1 i; most = k.most })) ej refl
 
--- a part that was written over the front of a memory
-pub front_part : {X : Type 0} (w : ℕ) (xs ys : List X) → w ≡ length xs → take w (xs ++ ys) ≡ xs
-front_part {X} w xs ys e = ap (λ j. take j (xs ++ ys)) e ∙ all xs
-  where
-    all : (us : List X) → take (length us) (us ++ ys) ≡ us
-    all [] = refl
-    all (u ∷ us) = ap (λ zs. u ∷ zs) (all us)
+-- a sheet after a step back, and the memory, as the book says
+abbrev pub Back : {B K T : Type 0} → Board B T → Keep K T → OpenSheet B K → List Edit → List T → List T → Book T → Type 0
+Back board keep s js memory' memory b = ((Ok tt ≡ back_said memory b) × Agrees (keep.ordered s.keep) (board.matrix s.board) (board.limits s.board) (keep.store s.keep) js (back_book memory b)) × (memory' ≡ back_memory memory b)
+
+pub back_by : {B K T : Type 0} (board : Board B T) (keep : Keep K T) (memory : List T) (b : Book T) {s s' : OpenSheet B K} {js : List Edit} {m m' : List T} → s' ≡ s → m' ≡ m → Back board keep s js m memory b → Back board keep s' js m' memory b
+back_by board keep memory b {s} {s'} {js} {m} {m'} es em h = subst (λ z. Back board keep z js m' memory b) (sym es) (subst (λ z. Back board keep s js z memory b) (sym em) h)

@@ -1,22 +1,22 @@
 -- The agreement after an insertion and after a put.
-use Rattle.std.proofs.Common.{◌≡◌, ℕ, ◌-◌, ◌<◌, ◌≤◌, true, false, List, [], ◌∷◌, ◌++◌, length, Some, None, Ok, Err, Option, Result, sym, refl, ap, ◌∙◌, subst, ⊎_elim, arith, le-ltb, lt-ltb}
+use Rattle.std.proofs.Common.{◌≡◌, ℕ, ◌-◌, ◌<◌, ◌≤◌, leb, true, false, List, [], ◌∷◌, ◌++◌, length, Some, None, Ok, Err, Option, Result, sym, refl, ap, ◌∙◌, subst, ⊎_elim, arith, le-ltb, lt-ltb}
 use Rattle.std.proofs.lemmas.Bool.{cases_lt}
 use Rattle.std.proofs.lemmas.Bool.Decides.{nat_tests}
 use Rattle.cells.specs.declared.refusal.Refusal.{Refusal}
-use Rattle.cells.specs.declared.refusal.Refusal.TheVariants.{Journal, Keep, Place}
+use Rattle.cells.specs.declared.refusal.Refusal.TheVariants.{Keep, Place}
 use Rattle.cells.specs.Refusals.{answered, refused, accepted}
 use Rattle.matrix.specs.declared.limits.Limits.{Limits}
 use Rattle.matrix.specs.Matrix.{Matrix, Shaped, insert_row, put_cell}
 use Rattle.matrix.specs.Rules.{Within, put_answer, insert_answer}
 use Rattle.keeps.specs.Kept.{Store, pushed, push_answer}
-use Rattle.sheet.specs.declared.edit.Axis.{Axis}
+use Rattle.matrix.specs.declared.axis.Axis.{Axis}
 use Rattle.sheet.specs.declared.edit.Edit.{Edit}
 use Rattle.sheet.specs.declared.edit.Edit.TheVariants.{Put, Insert}
-use Rattle.sheet.specs.Axes.{along, inserted, insert_along}
-use Rattle.sheet.specs.Book.{Book, kept, full, lacks, entered, then, insert_said, insert_book, put_said, put_book, alone}
+use Rattle.matrix.specs.Axes.{along, inserted, insert_along}
+use Rattle.sheet.specs.Book.{Book, owed_limit, kept, full, lacks, entered, then, insert_said, insert_book, put_said, put_book, alone}
 use Rattle.sheet.specs.Stands.{Agrees}
 use Rattle.sheet.proofs.Undoes.{along_twice, insert_undone, met_at, met_wide, put_undone}
-use Rattle.sheet.proofs.Agreements.{is_full, not_full, enter, accept, refuse, same_store, book_within}
+use Rattle.sheet.proofs.Agreements.{no_room, is_full, not_full, enter, accept, refuse, same_store, book_within}
 
 -- a check on numbers that are the board's
 pub checked : {T : Type 0} (q : Result Unit Refusal) (L l : Limits) (i n : ℕ) (p : ℕ × ℕ) (m : Matrix T) → q ≡ insert_answer L i n p.0 p.1 → q ≡ Ok tt → L ≡ l → p ≡ (m.rows, m.cols) → Ok tt ≡ insert_answer l i n m.rows m.cols
@@ -26,10 +26,12 @@ module _ {T : Type 0} {ko : Type 0} {m : Matrix T} {l : Limits} {k : Store T} {j
   booked : Ok tt ≡ insert_along b.limits ax i line b.matrix
   booked = ok ∙ ap (λ z. insert_along z ax i line m) h.limits ∙ ap (insert_along b.limits ax i line) h.matrix
 
-  pub insert_refused : 256 ≤ length js → (Err Journal ≡ insert_said ax i line b) × Agrees ko m l k js (insert_book ax i line b)
-  insert_refused p = refuse b _ (insert_said ax i line b) Journal (ap (λ q. then q (refused 10 (full b) accepted)) (sym booked) ∙ ap (λ t. refused 10 t accepted) (is_full h p)) h
+  pub insert_refused : (r : Result Unit Refusal) (e : Refusal) → Err e ≡ refused 10 (leb owed_limit (length js)) accepted → r ≡ Err e → (r ≡ insert_said ax i line b) × Agrees ko m l k js (insert_book ax i line b)
+  insert_refused r e p is =
+      let no = no_room (length js) e p in
+      refuse b _ (insert_said ax i line b) r e is (ap (λ q. then q (refused 10 (full b) accepted)) (sym booked) ∙ ap (λ t. refused 10 t accepted) (is_full h no.0) ∙ ap Err (sym no.1)) h
 
-  pub insert_accepted : {m' : Matrix T} {l' : Limits} {js' : List Edit} → length js < 256 → m' ≡ inserted ax i line m → l' ≡ l → js' ≡ js ++ (Insert ax i (length line) ∷ []) → (Ok tt ≡ insert_said ax i line b) × Agrees ko m' l' k js' (insert_book ax i line b)
+  pub insert_accepted : {m' : Matrix T} {l' : Limits} {js' : List Edit} → length js < owed_limit → m' ≡ inserted ax i line m → l' ≡ l → js' ≡ js ++ (Insert ax i (length line) ∷ []) → (Ok tt ≡ insert_said ax i line b) × Agrees ko m' l' k js' (insert_book ax i line b)
   insert_accepted p em el ej =
       let v = book_within h w in
       let n = inserted ax i line b.matrix in
@@ -77,7 +79,7 @@ push_goes k p = grind (arith, nat_tests)
 
 module _ {T : Type 0} {ko : Type 0} {m : Matrix T} {l : Limits} {k : Store T} {js : List Edit} {b : Book T} (h : Agrees ko m l k js b) (w : Within l m) (r c : ℕ) (x : T) where
   pub put_nowhere : m.cell r c ≡ None → (Err Place ≡ put_said r c b) × Agrees ko m l k js (put_book r c x b)
-  put_nowhere e = refuse b _ (put_said r c b) Place
+  put_nowhere e = refuse b _ (put_said r c b) (Err Place) Place refl
       (ap (λ q. then q (refused 10 (full b) (refused 11 (lacks b 1) accepted))) (sym (ap (put_answer r c) h.matrix) ∙ put_out m r c (outside m w.shaped r c e))) h
 
   module _ (old : T) (e : m.cell r c ≡ Some old) where
@@ -87,18 +89,20 @@ module _ {T : Type 0} {ko : Type 0} {m : Matrix T} {l : Limits} {k : Store T} {j
     on_to_journal : put_said r c b ≡ refused 10 (full b) (refused 11 (lacks b 1) accepted)
     on_to_journal = ap (λ q. then q (refused 10 (full b) (refused 11 (lacks b 1) accepted))) there
 
-    pub put_no_journal : 256 ≤ length js → (Err Journal ≡ put_said r c b) × Agrees ko m l k js (put_book r c x b)
-    put_no_journal p = refuse b _ (put_said r c b) Journal (on_to_journal ∙ ap (λ t. refused 10 t (refused 11 (lacks b 1) accepted)) (is_full h p)) h
+    pub put_no_journal : (s : Result Unit Refusal) (d : Refusal) → Err d ≡ refused 10 (leb owed_limit (length js)) accepted → s ≡ Err d → (s ≡ put_said r c b) × Agrees ko m l k js (put_book r c x b)
+    put_no_journal s d p is =
+        let no = no_room (length js) d p in
+        refuse b _ (put_said r c b) s d is (on_to_journal ∙ ap (λ t. refused 10 t (refused 11 (lacks b 1) accepted)) (is_full h no.0) ∙ ap Err (sym no.1)) h
 
-    pub put_no_keep : {ko' : Type 0} {k' : Store T} (q : Result Unit Refusal) (d : Refusal) → length js < 256 → ko' → q ≡ Err d → q ≡ push_answer k → k' ≡ answered q (pushed old k) k → (Err d ≡ put_said r c b) × Agrees ko' m l k' js (put_book r c x b)
-    put_no_keep q d p ko' qd qa qe =
+    pub put_no_keep : {ko' : Type 0} {k' : Store T} (s q : Result Unit Refusal) (d : Refusal) → length js < owed_limit → ko' → q ≡ Err d → q ≡ push_answer k → k' ≡ answered q (pushed old k) k → s ≡ Err d → (s ≡ put_said r c b) × Agrees ko' m l k' js (put_book r c x b)
+    put_no_keep s q d p ko' qd qa qe is =
         let stop = push_stops k d (sym qd ∙ qa) in
         let same : _ ≡ k = qe ∙ ap (λ z. answered z (pushed old k) k) qd in
         let lack : lacks b 1 ≡ true = lt-ltb (b.most - length (kept b.entries)) 1 (omega (arith, stop.0, h.most, ap length h.cells)) in
-        refuse b _ (put_said r c b) d (on_to_journal ∙ ap (λ t. refused 10 t (refused 11 (lacks b 1) accepted)) (not_full h p) ∙ ap (λ t. refused 11 t accepted) lack ∙ ap Err (sym stop.1))
+        refuse b _ (put_said r c b) s d is (on_to_journal ∙ ap (λ t. refused 10 t (refused 11 (lacks b 1) accepted)) (not_full h p) ∙ ap (λ t. refused 11 t accepted) lack ∙ ap Err (sym stop.1))
         (record { ordered = ko'; matrix = h.matrix; limits = h.limits; cells = ap (λ z. z.cells) same ∙ h.cells; most = ap (λ z. z.most) same ∙ h.most; notes = h.notes; past = h.past; count = h.count })
 
-    pub put_accepted : {ko' : Type 0} {m' : Matrix T} {l' : Limits} {k' : Store T} {js' : List Edit} (q s : Result Unit Refusal) → length js < 256 → ko' → q ≡ Ok tt → q ≡ push_answer k → k' ≡ answered q (pushed old k) k → s ≡ put_answer r c m → m' ≡ answered s (put_cell r c x m) m → l' ≡ l → js' ≡ js ++ (Put r c ∷ []) → (Ok tt ≡ put_said r c b) × Agrees ko' m' l' k' js' (put_book r c x b)
+    pub put_accepted : {ko' : Type 0} {m' : Matrix T} {l' : Limits} {k' : Store T} {js' : List Edit} (q s : Result Unit Refusal) → length js < owed_limit → ko' → q ≡ Ok tt → q ≡ push_answer k → k' ≡ answered q (pushed old k) k → s ≡ put_answer r c m → m' ≡ answered s (put_cell r c x m) m → l' ≡ l → js' ≡ js ++ (Put r c ∷ []) → (Ok tt ≡ put_said r c b) × Agrees ko' m' l' k' js' (put_book r c x b)
     put_accepted {ko'} {m'} {l'} {k'} {js'} q s p ko'' qok qa qe sa me el ej =
         let go = push_goes k (sym qok ∙ qa) in
         let lack : lacks b 1 ≡ false = le-ltb (b.most - length (kept b.entries)) 1 (omega (arith, go, h.most, ap length h.cells)) in

@@ -8,9 +8,9 @@ use Rattle.matrix.specs.Rules.{Within, insert_answer, insert_row_answer}
 use Rattle.matrix.proofs.Held.{within_turned}
 use Rattle.matrix.proofs.Undo.{remove_insert, insert_remove, row_length, flip_rows_twice}
 use Rattle.matrix.proofs.Whole.{same_matrix, whole_shaped, across_stays}
-use Rattle.sheet.specs.declared.edit.Axis.{Axis}
-use Rattle.sheet.specs.declared.edit.Axis.TheVariants.{Row, Col}
-use Rattle.sheet.specs.Axes.{along, inserted, removed, line_of, flipped, insert_along}
+use Rattle.matrix.specs.declared.axis.Axis.{Axis}
+use Rattle.matrix.specs.declared.axis.Axis.TheVariants.{Row, Col}
+use Rattle.matrix.specs.Axes.{along, inserted, removed, line_of, flipped, insert_along}
 
 pub along_twice : {T : Type 0} (ax : Axis) (m : Matrix T) → along ax (along ax m) ≡ m
 along_twice Row m = refl

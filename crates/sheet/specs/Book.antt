@@ -5,10 +5,10 @@ use Rattle.cells.specs.Refusals.{refused, accepted, answered, numbered}
 use Rattle.matrix.specs.declared.limits.Limits.{Limits}
 use Rattle.matrix.specs.Matrix.{Matrix, put_cell, over, turned}
 use Rattle.matrix.specs.Rules.{put_answer}
-use Rattle.sheet.specs.declared.edit.Axis.{Axis}
+use Rattle.matrix.specs.declared.axis.Axis.{Axis}
 use Rattle.sheet.specs.declared.edit.Edit.{Edit}
 use Rattle.sheet.specs.declared.edit.Edit.TheVariants.{Put, Insert, Remove, Transpose, Flip}
-use Rattle.sheet.specs.Axes.{along, inserted, removed, line_of, flipped, insert_along, remove_along}
+use Rattle.matrix.specs.Axes.{along, inserted, removed, line_of, flipped, insert_along, remove_along}
 
 -- No more edits are owed than these.
 abbrev pub owed_limit : ℕ

@@ -1,4 +1,4 @@
-pub mod Axes
+pub mod Noted
 pub mod Book
 pub mod Stands
 pub mod Sheets

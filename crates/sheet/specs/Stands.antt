@@ -1,18 +1,13 @@
 -- When a sheet stands as a book says.
-use Rattle.std.specs.Prelude.{◌≡◌, ◌+◌, ◌<◌, ◌≤◌, List, [], ◌∷◌, length, take, Ok}
+use Rattle.std.specs.Prelude.{◌≡◌, ◌+◌, ◌<◌, ◌≤◌, List, [], ◌∷◌, length, Ok}
 use Rattle.matrix.specs.declared.limits.Limits.{Limits}
 use Rattle.matrix.specs.Matrix.{Matrix, put_cell, turned}
 use Rattle.matrix.specs.Rules.{put_answer}
 use Rattle.keeps.specs.Kept.{Store}
 use Rattle.sheet.specs.declared.edit.Edit.{Edit}
 use Rattle.sheet.specs.declared.edit.Edit.TheVariants.{Put, Insert, Remove, Transpose, Flip}
-use Rattle.sheet.specs.declared.journal.Journal.{Journal}
-use Rattle.sheet.specs.Axes.{along, inserted, removed, flipped, insert_along}
+use Rattle.matrix.specs.Axes.{along, inserted, removed, flipped, insert_along}
 use Rattle.sheet.specs.Book.{Book, Entry, kept, edits}
-
--- the owed edits that a journal has noted, oldest first
-abbrev pub noted : Journal → List Edit
-noted j = take j.owed j.edits
 
 -- what undoing an edit makes of a matrix, with the cells that the edit took off
 abbrev pub undone : {T : Type 0} → Edit → List T → Matrix T → Matrix T

@@ -1,15 +1,31 @@
 // The journal of a sheet: which edits are owed a step back.
-ghost use Rattle.std.specs.Prelude.{◌≡◌, ℕ, ◌≤◌, length};
-
 use crate::edit::Edit;
+use std::marker::Model;
 
 pub mod calls;
 
-// At most 256 owed edits, the oldest first.
+// The most edits that are owed.
+// kept: another limit than the longest line, of the same number
+pub(crate) const OWED: usize = 256;
+
+// It is seen as the list of the owed edits, the oldest first, at most 256 of them.
 #[derive(Drop)]
 pub struct Journal {
-    edits: [Edit; 256],
+    // kept: no heap, so a journal is a fixed array and how much of it is used
+    edits: [Edit; OWED],
     owed: usize,
-    ghost few: { owed ≤ 256 },
-    ghost long: { length edits ≡ 256 },
+}
+
+impl Model for Journal {
+    ghost use Rattle.std.specs.Prelude.{◌≡◌, ◌≤◌, List, length};
+    ghost use Rattle.sheet.specs.declared.edit.Edit.{Edit};
+
+    ghost Value = { List Edit };
+
+    ghost use Rattle.sheet.specs.Book.{owed_limit};
+    ghost use Rattle.sheet.specs.Noted.{noted};
+
+    ghost view = { noted };
+
+    ghost invariant = { λ a. (a.owed ≤ owed_limit) × (length a.edits ≡ owed_limit) };
 }

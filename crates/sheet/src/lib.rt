@@ -3,6 +3,5 @@
 
 mod axis;
 pub mod edit;
-mod emptied;
 mod journal;
 pub mod sheets;

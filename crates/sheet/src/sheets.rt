@@ -2,7 +2,6 @@
 use crate::journal::Journal;
 
 pub mod back;
-pub mod named;
 pub mod open;
 pub mod published;
 pub mod questions;

@@ -4,13 +4,12 @@ use grid::grid::Grid;
 use keeps::joined::JoinedKeep;
 use keeps::keep::Keep;
 use keeps::stack::StackKeep;
+use matrix::axis::Axis;
 use matrix::shape::Order;
 use replay::call::{Answer, Call, Segment};
 use replay::mirror::replay_both;
 use seats::board::SeatBoard;
-use sheet::edit::Axis;
 use std::process::Abort;
-use std::test::Fail;
 
 const PAIR: Segment = Segment { start: 0, len: 2 };
 
@@ -37,43 +36,25 @@ const CALLS: [Call<u8>; 16] = [
 
 const LINES: [u8; 5] = [1, 2, 3, 4, 5];
 
-fn check_mirror(rt: &impl Abort, k: usize, a: Answer<u8>, b: Answer<u8>) -> Result<(), Fail> {
-    match (a, b) {
-        (Answer::Sized(r, c), Answer::Sized(s, d)) => {
-            assert_eq!(rt; (r, c), (d, s));
-            Ok(())
-        },
-        (Answer::Cell(x), Answer::Cell(y)) => {
-            assert_eq!(rt; x, y);
-            Ok(())
-        },
-        (Answer::Count(x), Answer::Count(y)) => {
-            assert_eq!(rt; x, y);
-            Ok(())
-        },
-        (Answer::Said(Ok(())), Answer::Said(Ok(()))) => Ok(()),
-        (Answer::Said(Err(x)), Answer::Said(Err(y))) => {
-            assert_eq!(rt; x.number(), y.number());
-            Ok(())
-        },
-        (Answer::Moved, Answer::Moved) => Ok(()),
-        _ => {
-            assert_eq!(rt; k, 1000);
-            Ok(())
-        },
+// What the exchanged call is answered: sizes have their sides exchanged.
+fn mirrored(answer: Answer<u8>) -> Answer<u8> {
+    match answer {
+        Answer::Sized(rows, cols) => Answer::Sized(cols, rows),
+        same => same,
     }
 }
 
+// kept: the struct of a board and a keep is OpenSheet, which the run makes of both; the handle is for the assertions.
 fn both<
     B: Board<Cell = u8> + Drop,
     K: Keep<Cell = u8> + Drop,
     C: Board<Cell = u8> + Drop,
     L: Keep<Cell = u8> + Drop,
->(rt: &impl Abort, mut board: B, keep: K, mut other: C, first: L, second: L) -> Result<(), Fail> {
-    let _ = board.insert_row(0, &[10, 11, 12]);
-    let _ = board.insert_row(1, &[13, 14, 15]);
-    let _ = other.insert_col(0, &[10, 11, 12]);
-    let _ = other.insert_col(1, &[13, 14, 15]);
+>(rt: &impl Abort, mut board: B, keep: K, mut other: C, first: L, second: L) {
+    for (i, line) in [[10, 11, 12], [13, 14, 15]].iter().enumerate() {
+        assert_eq!(rt; board.insert(Axis::Row, i, line), Ok(()));
+        assert_eq!(rt; other.insert(Axis::Col, i, line), Ok(()));
+    }
     let joined = JoinedKeep::new(first, second);
     let mut exchanged = [Call::Size; 16];
     let mut memory = [0u8; 8];
@@ -93,25 +74,26 @@ fn both<
         &mut answers,
         &mut other_answers,
     );
-    for k in 0..16 {
-        check_mirror(rt, k, answers[k], other_answers[k])?;
+    for (answer, other) in answers.iter().zip(other_answers.iter()) {
+        assert!(rt; *answer != Answer::Lacking);
+        assert_eq!(rt; mirrored(*answer), *other);
     }
     assert_eq!(rt; &memory[0..8], &other_memory[0..8]);
     assert_eq!(rt; one.owed, 0);
     assert_eq!(rt; two.owed, 0);
     assert_eq!(rt; one.board.size(), (3, 2));
     assert_eq!(rt; two.board.size(), (2, 3));
+    // kept: each place of the board is asked by its numbers, and no cells are listed here.
     for r in 0..3 {
         for c in 0..2 {
             assert_eq!(rt; one.board.get(r, c), two.board.get(c, r));
         }
     }
     assert_eq!(rt; one.board.get(0, 1), Some(70));
-    Ok(())
 }
 
 #[test]
-fn grid_and_seats(rt: HostRuntime) -> Result<(), Fail> {
+fn grid_and_seats(rt: HostRuntime) {
     let mut cells = [0u8; 36];
     let mut seats = [0u8; 36];
     let mut kept = [0u8; 9];
@@ -124,5 +106,5 @@ fn grid_and_seats(rt: HostRuntime) -> Result<(), Fail> {
         SeatBoard::new(&mut seats, 6),
         StackKeep::new(&mut four),
         StackKeep::new(&mut five),
-    )
+    );
 }

@@ -7,225 +7,191 @@ use grid::grid::Grid;
 use keeps::joined::JoinedKeep;
 use keeps::keep::Keep;
 use keeps::stack::StackKeep;
+use matrix::axis::Axis;
 use matrix::shape::Order;
 use seats::board::SeatBoard;
 use sheet::sheets::OpenSheet;
 use std::process::Abort;
-use std::test::Fail;
 
-#[derive(Clone, Copy)]
-enum Case {
-    Penalty,
-    Journal,
-    Side,
+// What is done on a sheet of an empty board and an empty keep.
+// kept: the struct of a board and a keep is OpenSheet, and a case may write on its board first; the handle is to assert by.
+trait SheetCase {
+    fn on_sheet<B: Board<Cell = Penalty> + Drop, K: Keep<Cell = Penalty> + Drop>(
+        &self,
+        rt: &impl Abort,
+        board: B,
+        keep: K,
+    );
 }
 
-fn says(rt: &impl Abort, r: Result<(), Refusal>, name: &str) {
-    let got = match r {
-        Ok(()) => "ok",
-        Err(why) => why.name(),
-    };
-    assert_eq!(rt; got, name);
-}
-
-fn holds(rt: &impl Abort, cell: Option<Penalty>, thousandths: i32) -> Result<(), Fail> {
-    match cell {
-        Some(penalty) => {
-            assert_eq!(rt; penalty.0, thousandths);
-            Ok(())
-        },
-        None => {
-            assert_eq!(rt; "absent", "a cell");
-            Ok(())
-        },
-    }
+// What is done on an empty board.
+trait BoardCase {
+    fn on_board<B: Board<Cell = Penalty> + Drop>(&self, rt: &impl Abort, board: B);
 }
 
 // Penalties 0 0 / 0 0: two seconds at (0, 1), and row 0 is withdrawn. Two steps back leave every thousandth where it was.
-fn lifted<B: Board<Cell = Penalty> + Drop, K: Keep<Cell = Penalty> + Drop>(
-    rt: &impl Abort,
-    mut board: B,
-    keep: K,
-) -> Result<(), Fail> {
-    let none = [Penalty(0), Penalty(0)];
-    let mut memory = [Penalty(-1); 3];
-    says(rt, board.insert_row(0, &none), "ok");
-    says(rt, board.insert_row(0, &none), "ok");
-    let mut sheet = OpenSheet::new(board, keep);
-    says(rt, sheet.put(0, 1, Penalty(2000)), "ok");
-    let removed = sheet.remove_row(0, &mut memory);
-    says(rt, removed, "ok");
-    assert_eq!(rt; memory[1].0, 2000);
-    assert_eq!(rt; memory[2].0, -1);
-    assert_eq!(rt; sheet.owed(), 2);
-    assert_eq!(rt; sheet.kept(), 3);
-    let back = sheet.step_back(&mut memory);
-    says(rt, back, "ok");
-    assert_eq!(rt; sheet.kept(), 1);
-    holds(rt, sheet.get(0, 1), 2000)?;
-    let back = sheet.step_back(&mut memory);
-    says(rt, back, "ok");
-    assert_eq!(rt; sheet.kept(), 0);
-    assert_eq!(rt; sheet.size(), (2, 2));
-    for r in 0..2 {
-        for c in 0..2 {
-            holds(rt, sheet.get(r, c), 0)?;
+#[derive(Clone, Copy)]
+struct Lifted;
+
+impl SheetCase for Lifted {
+    fn on_sheet<B: Board<Cell = Penalty> + Drop, K: Keep<Cell = Penalty> + Drop>(
+        &self,
+        rt: &impl Abort,
+        mut board: B,
+        keep: K,
+    ) {
+        let none = [Penalty(0), Penalty(0)];
+        let mut memory = [Penalty(-1); 3];
+        assert_eq!(rt; board.insert(Axis::Row, 0, &none), Ok(()));
+        assert_eq!(rt; board.insert(Axis::Row, 0, &none), Ok(()));
+        let mut sheet = OpenSheet::new(board, keep);
+        assert_eq!(rt; sheet.put(0, 1, Penalty(2000)), Ok(()));
+        assert_eq!(rt; sheet.remove(Axis::Row, 0, &mut memory), Ok(()));
+        assert_eq!(rt; memory[1].0, 2000);
+        assert_eq!(rt; memory[2].0, -1);
+        assert_eq!(rt; sheet.owed(), 2);
+        assert_eq!(rt; sheet.kept(), 3);
+        assert_eq!(rt; sheet.step_back(&mut memory), Ok(()));
+        assert_eq!(rt; sheet.kept(), 1);
+        assert_eq!(rt; sheet.get(0, 1), Some(Penalty(2000)));
+        assert_eq!(rt; sheet.step_back(&mut memory), Ok(()));
+        assert_eq!(rt; sheet.kept(), 0);
+        assert_eq!(rt; sheet.size(), (2, 2));
+        for (r, c) in [(0, 0), (0, 1), (1, 0), (1, 1)] {
+            assert_eq!(rt; sheet.get(r, c), Some(Penalty(0)));
         }
+        assert_eq!(rt; sheet.step_back(&mut memory), Err(Refusal::NothingOwed));
     }
-    let back = sheet.step_back(&mut memory);
-    says(rt, back, "NOTHING OWED");
-    Ok(())
 }
 
 // 256 edits are owed, and the next is refused; after a step back it is accepted.
-fn journal<B: Board<Cell = Penalty> + Drop, K: Keep<Cell = Penalty> + Drop>(
-    rt: &impl Abort,
-    board: B,
-    keep: K,
-) -> Result<(), Fail> {
-    let mut memory = [Penalty(0); 1];
-    let mut sheet = OpenSheet::new(board, keep);
-    says(rt, sheet.insert_row(0, &[Penalty(5)]), "ok");
-    for _ in 0..255 {
-        says(rt, sheet.transpose(), "ok");
+#[derive(Clone, Copy)]
+struct Journal;
+
+impl SheetCase for Journal {
+    fn on_sheet<B: Board<Cell = Penalty> + Drop, K: Keep<Cell = Penalty> + Drop>(
+        &self,
+        rt: &impl Abort,
+        board: B,
+        keep: K,
+    ) {
+        let mut memory = [Penalty(0); 1];
+        let mut sheet = OpenSheet::new(board, keep);
+        assert_eq!(rt; sheet.insert(Axis::Row, 0, &[Penalty(5)]), Ok(()));
+        for _ in 0..255 {
+            assert_eq!(rt; sheet.transpose(), Ok(()));
+        }
+        assert_eq!(rt; sheet.owed(), 256);
+        assert_eq!(rt; sheet.transpose(), Err(Refusal::Journal));
+        assert_eq!(rt; sheet.flip(Axis::Row), Err(Refusal::Journal));
+        assert_eq!(rt; sheet.put(0, 0, Penalty(1)), Err(Refusal::Journal));
+        assert_eq!(rt; sheet.put(1, 0, Penalty(1)), Err(Refusal::Place));
+        assert_eq!(rt;
+            sheet.remove(Axis::Col, 0, &mut memory),
+            Err(Refusal::Journal)
+        );
+        assert_eq!(rt; sheet.get(0, 0), Some(Penalty(5)));
+        assert_eq!(rt; sheet.step_back(&mut memory), Ok(()));
+        assert_eq!(rt; sheet.flip(Axis::Col), Ok(()));
+        let published = sheet.publish();
+        assert_eq!(rt; published.settled(), 256);
+        let reopened = published.reopen();
+        assert_eq!(rt; reopened.owed(), 0);
     }
-    assert_eq!(rt; sheet.owed(), 256);
-    says(rt, sheet.transpose(), "JOURNAL");
-    says(rt, sheet.flip_rows(), "JOURNAL");
-    says(rt, sheet.put(0, 0, Penalty(1)), "JOURNAL");
-    says(rt, sheet.put(1, 0, Penalty(1)), "PLACE");
-    let removed = sheet.remove_col(0, &mut memory);
-    says(rt, removed, "JOURNAL");
-    holds(rt, sheet.get(0, 0), 5)?;
-    let back = sheet.step_back(&mut memory);
-    says(rt, back, "ok");
-    says(rt, sheet.flip_cols(), "ok");
-    let published = sheet.publish();
-    assert_eq!(rt; published.settled(), 256);
-    let reopened = published.reopen();
-    assert_eq!(rt; reopened.owed(), 0);
-    Ok(())
 }
 
 // 256 rows stand, and the next is refused for its side: that is asked before the journal, which is full too.
-fn side<B: Board<Cell = Penalty> + Drop, K: Keep<Cell = Penalty> + Drop>(
-    rt: &impl Abort,
-    board: B,
-    keep: K,
-) -> Result<(), Fail> {
-    let mut sheet = OpenSheet::new(board, keep);
-    for k in 0..256 {
-        says(rt, sheet.insert_row(k, &[Penalty(k as i32)]), "ok");
-    }
-    says(rt, sheet.insert_row(256, &[Penalty(0)]), "SIDE");
-    assert_eq!(rt; sheet.size(), (256, 1));
-    for k in 0usize..256 {
-        let mut memory = [Penalty(0); 1];
-        let back = sheet.step_back(&mut memory);
-        says(rt, back, "ok");
-        assert_eq!(rt; memory[0].0, 255i32.saturating_sub(k as i32));
-    }
-    assert_eq!(rt; sheet.size(), (0, 0));
-    Ok(())
-}
+#[derive(Clone, Copy)]
+struct Side;
 
-fn on_sheet<B: Board<Cell = Penalty> + Drop, K: Keep<Cell = Penalty> + Drop>(
-    rt: &impl Abort,
-    case: Case,
-    board: B,
-    keep: K,
-) -> Result<(), Fail> {
-    match case {
-        Case::Penalty => lifted(rt, board, keep),
-        Case::Journal => journal(rt, board, keep),
-        Case::Side => side(rt, board, keep),
+impl SheetCase for Side {
+    fn on_sheet<B: Board<Cell = Penalty> + Drop, K: Keep<Cell = Penalty> + Drop>(
+        &self,
+        rt: &impl Abort,
+        board: B,
+        keep: K,
+    ) {
+        let mut sheet = OpenSheet::new(board, keep);
+        // kept: the number of a row itself goes in, as its place and as its cell, and comes out below.
+        for k in 0..256u16 {
+            let cell = Penalty(i32::from(k));
+            assert_eq!(rt; sheet.insert(Axis::Row, usize::from(k), &[cell]), Ok(()));
+        }
+        assert_eq!(rt;
+            sheet.insert(Axis::Row, 256, &[Penalty(0)]),
+            Err(Refusal::Side)
+        );
+        assert_eq!(rt; sheet.size(), (256, 1));
+        for k in (0..256u16).rev() {
+            let mut memory = [Penalty(0); 1];
+            assert_eq!(rt; sheet.step_back(&mut memory), Ok(()));
+            assert_eq!(rt; memory[0].0, i32::from(k));
+        }
+        assert_eq!(rt; sheet.size(), (0, 0));
     }
 }
 
-fn on_joined<B: Board<Cell = Penalty> + Drop, K: Keep<Cell = Penalty> + Drop>(
-    rt: &impl Abort,
-    case: Case,
-    board: B,
-    first: K,
-    second: K,
-) -> Result<(), Fail> {
-    on_sheet(rt, case, board, JoinedKeep::new(first, second))
+// The case on a stack of four cells.
+#[derive(Clone, Copy)]
+struct Stacked<C>(C);
+
+impl<C: SheetCase> BoardCase for Stacked<C> {
+    fn on_board<B: Board<Cell = Penalty> + Drop>(&self, rt: &impl Abort, board: B) {
+        let mut four = [Penalty(0); 4];
+        self.0.on_sheet(rt, board, StackKeep::new(&mut four));
+    }
 }
 
-// On a stack of four cells, or on one of one cell joined to one of three.
-fn on_keep<B: Board<Cell = Penalty> + Drop>(
-    rt: &impl Abort,
-    case: Case,
-    joined: bool,
-    board: B,
-) -> Result<(), Fail> {
-    if joined {
+// The case on a stack of one cell joined to one of three.
+#[derive(Clone, Copy)]
+struct Joined<C>(C);
+
+impl<C: SheetCase> BoardCase for Joined<C> {
+    fn on_board<B: Board<Cell = Penalty> + Drop>(&self, rt: &impl Abort, board: B) {
         let mut one = [Penalty(0); 1];
         let mut three = [Penalty(0); 3];
-        return on_joined(
-            rt,
-            case,
-            board,
-            StackKeep::new(&mut one),
-            StackKeep::new(&mut three),
-        );
+        let keep = JoinedKeep::new(StackKeep::new(&mut one), StackKeep::new(&mut three));
+        self.0.on_sheet(rt, board, keep);
     }
-    let mut four = [Penalty(0); 4];
-    on_sheet(rt, case, board, StackKeep::new(&mut four))
 }
 
-fn on_board<B: Board<Cell = Penalty> + Drop>(
-    rt: &impl Abort,
-    case: Case,
-    joined: bool,
-    turned: bool,
-    board: B,
-) -> Result<(), Fail> {
-    if turned {
-        return on_keep(rt, case, joined, TurnedBoard::over(board));
+// The case on the board turned.
+#[derive(Clone, Copy)]
+struct Turned<C>(C);
+
+impl<C: BoardCase> BoardCase for Turned<C> {
+    fn on_board<B: Board<Cell = Penalty> + Drop>(&self, rt: &impl Abort, board: B) {
+        self.0.on_board(rt, TurnedBoard::over(board));
     }
-    on_keep(rt, case, joined, board)
 }
 
-fn on_each(rt: &impl Abort, case: Case, joined: bool, turned: bool) -> Result<(), Fail> {
-    let mut room = [Penalty(0); 512];
-    on_board(
-        rt,
-        case,
-        joined,
-        turned,
-        Grid::from_vec_with_order(&mut room, 0, 0, Order::RowMajor),
-    )?;
-    let mut room = [Penalty(0); 512];
-    on_board(
-        rt,
-        case,
-        joined,
-        turned,
-        Grid::from_vec_with_order(&mut room, 0, 0, Order::ColumnMajor),
-    )?;
+fn on_each(rt: &impl Abort, case: impl BoardCase + Copy) {
+    for order in [Order::RowMajor, Order::ColumnMajor] {
+        let mut room = [Penalty(0); 512];
+        case.on_board(rt, Grid::from_vec_with_order(&mut room, 0, 0, order));
+    }
     let mut room = [Penalty(0); 65536];
-    on_board(rt, case, joined, turned, SeatBoard::new(&mut room, 256))
+    case.on_board(rt, SeatBoard::new(&mut room, 256));
 }
 
-fn everywhere(rt: &impl Abort, case: Case) -> Result<(), Fail> {
-    on_each(rt, case, false, false)?;
-    on_each(rt, case, false, true)?;
-    on_each(rt, case, true, false)?;
-    on_each(rt, case, true, true)
-}
-
-#[test]
-fn penalty_lifted_and_crew_back(rt: HostRuntime) -> Result<(), Fail> {
-    everywhere(&rt, Case::Penalty)
+fn everywhere(rt: &impl Abort, case: impl SheetCase + Copy) {
+    on_each(rt, Stacked(case));
+    on_each(rt, Turned(Stacked(case)));
+    on_each(rt, Joined(case));
+    on_each(rt, Turned(Joined(case)));
 }
 
 #[test]
-fn journal_of_256_edits(rt: HostRuntime) -> Result<(), Fail> {
-    everywhere(&rt, Case::Journal)
+fn penalty_lifted_and_crew_back(rt: HostRuntime) {
+    everywhere(&rt, Lifted);
 }
 
 #[test]
-fn side_of_256_rows(rt: HostRuntime) -> Result<(), Fail> {
-    everywhere(&rt, Case::Side)
+fn journal_of_256_edits(rt: HostRuntime) {
+    everywhere(&rt, Journal);
+}
+
+#[test]
+fn side_of_256_rows(rt: HostRuntime) {
+    everywhere(&rt, Side);
 }

@@ -1,4 +1,4 @@
--- A row that went in comes out again.
+-- A line that went in comes out again.
 use Rattle.std.proofs.Common.{◌≡◌, ℕ, ◌+◌, ◌<◌, ◌≤◌, ltb, List, length, Ok, Result, sym, ap, ◌∙◌, arith}
 use Rattle.std.proofs.lemmas.Bool.Decides.{nat_tests}
 use Rattle.cells.specs.declared.refusal.Refusal.{Refusal}
@@ -6,6 +6,9 @@ use Rattle.cells.specs.Refusals.{answered, refused}
 use Rattle.matrix.specs.declared.limits.Limits.{Limits}
 use Rattle.matrix.specs.Matrix.{Matrix, insert_row, remove_row, row, over}
 use Rattle.matrix.specs.Rules.{Within, insert_answer, insert_row_answer, remove_answer, remove_row_answer}
+use Rattle.matrix.specs.declared.axis.Axis.{Axis}
+use Rattle.matrix.specs.Axes.{along, inserted, removed, line_of, insert_along, remove_along}
+use Rattle.matrix.proofs.Along.{along_twice, within_along}
 use Rattle.matrix.proofs.Undo.{remove_insert, row_insert}
 
 fits : (l : Limits) (i n count across : ℕ) → Ok tt ≡ insert_answer l i n count across → 0 < count → n ≡ across
@@ -17,27 +20,30 @@ inside l i n count across e = grind (arith, nat_tests)
 taken : (i n count across : ℕ) → i < count → across ≤ n → Ok tt ≡ remove_answer i n count across
 taken i n count across h k = grind (arith, nat_tests)
 
--- r is the insertion's answer and m₁ what it left, q the removal's answer and m₂ what that left
-module _ {T : Type 0} (l : Limits) (i : ℕ) (line mem zs : List T) (m m₁ m₂ : Matrix T) (r q : Result Unit Refusal)
-    (w : Within l m) (long : length line ≤ length mem) (ok : r ≡ Ok tt) (ra : r ≡ insert_row_answer l i line m) (re : m₁ ≡ answered r (insert_row i line m) m)
-    (qa : q ≡ remove_row_answer i mem m₁) (qe : m₂ ≡ answered q (remove_row i m₁) m₁) (ql : zs ≡ answered q (over (row i m₁) mem) mem) where
-  accepted : Ok tt ≡ insert_row_answer l i line m
+-- r is the insertion's answer and m₁ what it left, q the removal's answer and m₂ what that left, with the lines along an axis
+module _ {T : Type 0} (ax : Axis) (l : Limits) (i : ℕ) (line mem zs : List T) (m m₁ m₂ : Matrix T) (r q : Result Unit Refusal)
+    (w : Within l m) (long : length line ≤ length mem) (ok : r ≡ Ok tt) (ra : r ≡ insert_along l ax i line m) (re : m₁ ≡ answered r (inserted ax i line m) m)
+    (qa : q ≡ remove_along ax i mem m₁) (qe : m₂ ≡ answered q (removed ax i m₁) m₁) (ql : zs ≡ answered q (over (line_of ax i m₁) mem) mem) where
+  accepted : Ok tt ≡ insert_row_answer l i line (along ax m)
   accepted = sym ok ∙ ra
 
-  there : m₁ ≡ insert_row i line m
-  there = re ∙ ap (λ a. answered a (insert_row i line m) m) ok
+  -- what stands, along the axis, is the row inserted
+  there : along ax m₁ ≡ insert_row i line (along ax m)
+  there = ap (along ax) (re ∙ ap (λ a. answered a (inserted ax i line m) m) ok) ∙ along_twice ax (insert_row i line (along ax m))
 
   out : q ≡ Ok tt
-  out = qa ∙ ap (remove_row_answer i mem) there ∙ sym (taken i (length mem) (m.rows + 1) (length line) (let h = inside l i (length line) m.rows m.cols accepted in omega arith) long)
+  out = qa ∙ ap (remove_row_answer i mem) there ∙ sym (taken i (length mem) ((along ax m).rows + 1) (length line) (let h = inside l i (length line) (along ax m).rows (along ax m).cols accepted in omega arith) long)
 
-  pub back_answer : q ≡ refused 9 (ltb (length mem) (length line)) (insert_row_answer l i line m)
-  back_answer = out ∙ accepted ∙ first (insert_row_answer l i line m)
+  pub back_answer : q ≡ refused 9 (ltb (length mem) (length line)) (insert_along l ax i line m)
+  back_answer = out ∙ accepted ∙ first (insert_along l ax i line m)
     where
       first : (a : Result Unit Refusal) → a ≡ refused 9 (ltb (length mem) (length line)) a
       first a = grind (arith, nat_tests)
 
   pub back_effect : m₂ ≡ m
-  back_effect = qe ∙ ap (λ a. answered a (remove_row i m₁) m₁) out ∙ ap (remove_row i) there ∙ remove_insert i line m w.shaped (fits l i (length line) m.rows m.cols accepted)
+  back_effect = qe ∙ ap (λ a. answered a (removed ax i m₁) m₁) out ∙ ap (λ n. along ax (remove_row i n)) there
+      ∙ ap (along ax) (remove_insert i line (along ax m) (within_along ax w).shaped (fits l i (length line) (along ax m).rows (along ax m).cols accepted))
+      ∙ along_twice ax m
 
   pub back_line : zs ≡ answered q (over line mem) mem
-  back_line = ql ∙ ap (λ n. answered q (over (row i n) mem) mem) there ∙ ap (λ xs. answered q (over xs mem) mem) (row_insert i line m)
+  back_line = ql ∙ ap (λ n. answered q (over (row i n) mem) mem) there ∙ ap (λ xs. answered q (over xs mem) mem) (row_insert i line (along ax m))

@@ -1,3 +1,2 @@
 pub mod Backs
-pub mod Stretches
 pub mod Runs

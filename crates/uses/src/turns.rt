@@ -1,47 +1,55 @@
-// A column call is the row call between two transpositions, on any board.
+// A call along an axis is the call along the other between two transpositions, on any board.
+// kept: `limits` as on the calls of a board, and a board, an axis and an index as those take them.
 ghost use Rattle.std.specs.Prelude.{◌≡◌};
 ghost use Rattle.cells.specs.Refusals.{answered};
-ghost use Rattle.matrix.specs.Matrix.{Matrix, insert_col, remove_col, col, over, flip_cols};
-ghost use Rattle.matrix.specs.Rules.{insert_col_answer, remove_col_answer};
+ghost use Rattle.matrix.specs.Matrix.{Matrix, over};
+ghost use Rattle.matrix.specs.Axes.{inserted, removed, line_of, flipped, insert_along, remove_along};
 
 use boards::board::Board;
 use cells::refusal::Refusal;
+use matrix::axis::Axis;
 
-// What `insert_col` does, by way of rows.
-pub fn insert_col_by_turns<B: Board>(b: &mut B, i: usize, line: &[B::Cell]) -> Result<(), Refusal>
-    ensures answer { result ≡ insert_col_answer (B.limits b.old) i line.now (B.matrix b.old) }
-    ensures effect { B.matrix b.new ≡ answered result (insert_col i line.now (B.matrix b.old)) (B.matrix b.old) }
+// What `insert` does, by way of the other axis.
+pub fn insert_by_turns<B: Board>(
+    b: &mut B,
+    axis: Axis,
+    i: usize,
+    line: &[B::Cell],
+) -> Result<(), Refusal>
+    ensures answer { result ≡ insert_along (B.limits b.old) axis i line.now (B.matrix b.old) }
+    ensures effect { B.matrix b.new ≡ answered result (inserted axis i line.now (B.matrix b.old)) (B.matrix b.old) }
     ensures limits { B.limits b.new ≡ B.limits b.old }
 {
     b.transpose();
-    let r = b.insert_row(i, line);
+    let r = b.insert(axis.other(), i, line);
     b.transpose();
     r
 }
 
-// What `remove_col` does, by way of rows.
-pub fn remove_col_by_turns<B: Board>(
+// What `remove` does, by way of the other axis.
+pub fn remove_by_turns<B: Board>(
     b: &mut B,
+    axis: Axis,
     i: usize,
     memory: &mut [B::Cell],
 ) -> Result<(), Refusal>
-    ensures answer { result ≡ remove_col_answer i memory.old (B.matrix b.old) }
-    ensures effect { B.matrix b.new ≡ answered result (remove_col i (B.matrix b.old)) (B.matrix b.old) }
-    ensures line { memory.new ≡ answered result (over (col i (B.matrix b.old)) memory.old) memory.old }
+    ensures answer { result ≡ remove_along axis i memory.old (B.matrix b.old) }
+    ensures effect { B.matrix b.new ≡ answered result (removed axis i (B.matrix b.old)) (B.matrix b.old) }
+    ensures line { memory.new ≡ answered result (over (line_of axis i (B.matrix b.old)) memory.old) memory.old }
     ensures limits { B.limits b.new ≡ B.limits b.old }
 {
     b.transpose();
-    let r = b.remove_row(i, memory);
+    let r = b.remove(axis.other(), i, memory);
     b.transpose();
     r
 }
 
-// What `flip_cols` does, by way of rows.
-pub fn flip_cols_by_turns<B: Board>(b: &mut B)
-    ensures effect { B.matrix b.new ≡ flip_cols (B.matrix b.old) }
+// What `flip` does, by way of the other axis.
+pub fn flip_by_turns<B: Board>(b: &mut B, axis: Axis)
+    ensures effect { B.matrix b.new ≡ flipped axis (B.matrix b.old) }
     ensures limits { B.limits b.new ≡ B.limits b.old }
 {
     b.transpose();
-    b.flip_rows();
+    b.flip(axis.other());
     b.transpose();
 }

@@ -1,22 +1,18 @@
 // Making a grid, in two calls: a check that may refuse, and a making that never does.
+// kept: sides and an order come one by one, since a `Shape` has invariants, and these numbers are still to be checked.
 ghost use Rattle.std.specs.Prelude.{◌≡◌, ℕ, ◌*◌, ◌≤◌, length, take};
 ghost use Rattle.matrix.specs.declared.shape.Order.TheVariants.{RowMajor};
 ghost use Rattle.matrix.specs.Shapes.{form};
-ghost use Rattle.matrix.specs.Rules.{grid_limits, from_vec_answer, from_vec, new_answer, init};
+ghost use Rattle.matrix.specs.Rules.{from_vec_answer, from_vec, new_answer, init};
 ghost use Rattle.grid.specs.Makings.{from_vec_form, new_form};
-ghost use Rattle.grid.specs.Grids.{matrix, limits, order};
+ghost use Rattle.grid.specs.Grids.{matrix, Over};
 
 use crate::grid::Grid;
 use cells::kinds::Kind;
 use cells::refusal::Refusal;
 use flat::calls::fill;
+use matrix::limits::{CELLS, SIDE};
 use matrix::shape::{Order, Shape};
-
-// The most rows and the most columns.
-const SIDE: usize = 256;
-
-// The most cells.
-const CELLS: usize = 65536;
 
 // Whether n flat cells at the start of a memory make a grid of that many columns.
 pub fn from_vec_check(memory: usize, n: usize, cols: usize) -> Result<(), Refusal>
@@ -75,19 +71,13 @@ fn first_cells<T>(cells: &mut [T]) -> &mut [T]
 fn vec_shape(memory: usize, n: usize, cols: usize, order: Order) -> Shape
     ensures answer { form result ≡ from_vec_form memory n cols order }
 {
-    match from_vec_check(memory, n, cols) {
-        Ok(()) => {
-            if n == 0 {
-                Shape::empty(order)
-            } else {
-                Shape {
-                    rows: n / cols,
-                    cols,
-                    order,
-                }
-            }
-        }
-        Err(_) => Shape::empty(order),
+    if n == 0 || from_vec_check(memory, n, cols).is_err() {
+        return Shape::empty(order);
+    }
+    Shape {
+        rows: n / cols,
+        cols,
+        order,
     }
 }
 
@@ -95,20 +85,15 @@ fn vec_shape(memory: usize, n: usize, cols: usize, order: Order) -> Shape
 fn new_shape(memory: usize, rows: usize, cols: usize, order: Order) -> Shape
     ensures answer { form result ≡ new_form memory rows cols order }
 {
-    match new_check(memory, rows, cols) {
-        Ok(()) => {
-            if rows == 0 || cols == 0 {
-                Shape::empty(order)
-            } else {
-                Shape { rows, cols, order }
-            }
-        }
-        Err(_) => Shape::empty(order),
+    if rows == 0 || cols == 0 || new_check(memory, rows, cols).is_err() {
+        return Shape::empty(order);
     }
+    Shape { rows, cols, order }
 }
 
 impl<'a, T: Copy> Grid<'a, T> {
     // The n flat cells at the start of the memory, in lines of `cols` columns; empty where `from_vec_check` refuses.
+    // kept: a count beside the lent memory, since what lies past the count is room to grow.
     pub fn from_vec_with_order(
         cells: &'a mut [T],
         n: usize,
@@ -116,10 +101,8 @@ impl<'a, T: Copy> Grid<'a, T> {
         order: Order,
     ) -> Grid<'a, T>
         ensures effect { matrix result ≡ from_vec order n cols cells.old }
-        ensures limits { limits result ≡ grid_limits (length cells.old) }
-        ensures order { result.shape.order ≡ order }
+        ensures over { Over order cells.entry result }
         ensures cells { result.cells.now ≡ take 65536 cells.old }
-        ensures memory { length cells.old ≤ 65536 → result.cells.ghost_name ≡ cells.entry.ghost_name }
     {
         let shape = vec_shape(cells.len(), n, cols, order);
         Grid {
@@ -131,10 +114,8 @@ impl<'a, T: Copy> Grid<'a, T> {
     // The same in row-major order.
     pub fn from_vec(cells: &'a mut [T], n: usize, cols: usize) -> Grid<'a, T>
         ensures effect { matrix result ≡ from_vec RowMajor n cols cells.old }
-        ensures limits { limits result ≡ grid_limits (length cells.old) }
-        ensures order { result.shape.order ≡ RowMajor }
+        ensures over { Over RowMajor cells.entry result }
         ensures cells { result.cells.now ≡ take 65536 cells.old }
-        ensures memory { length cells.old ≤ 65536 → result.cells.ghost_name ≡ cells.entry.ghost_name }
     {
         Grid::from_vec_with_order(cells, n, cols, Order::RowMajor)
     }
@@ -148,9 +129,7 @@ impl<'a, T: Copy> Grid<'a, T> {
         x: T,
     ) -> Grid<'a, T>
         ensures effect { matrix result ≡ init (length cells.old) rows cols x }
-        ensures limits { limits result ≡ grid_limits (length cells.old) }
-        ensures order { result.shape.order ≡ order }
-        ensures memory { length cells.old ≤ 65536 → result.cells.ghost_name ≡ cells.entry.ghost_name }
+        ensures over { Over order cells.entry result }
     {
         let shape = new_shape(cells.len(), rows, cols, order);
         let first = first_cells(cells);
@@ -166,9 +145,7 @@ impl<'a, T: Kind> Grid<'a, T> {
     // A blank in every place of rows × cols; empty where `new_check` refuses.
     pub fn new_with_order(cells: &'a mut [T], rows: usize, cols: usize, order: Order) -> Grid<'a, T>
         ensures effect { matrix result ≡ init (length cells.old) rows cols T.Kind.nothing }
-        ensures limits { limits result ≡ grid_limits (length cells.old) }
-        ensures order { result.shape.order ≡ order }
-        ensures memory { length cells.old ≤ 65536 → result.cells.ghost_name ≡ cells.entry.ghost_name }
+        ensures over { Over order cells.entry result }
     {
         Grid::init_with_order(cells, rows, cols, order, T::blank())
     }
@@ -176,9 +153,7 @@ impl<'a, T: Kind> Grid<'a, T> {
     // The same in row-major order.
     pub fn new(cells: &'a mut [T], rows: usize, cols: usize) -> Grid<'a, T>
         ensures effect { matrix result ≡ init (length cells.old) rows cols T.Kind.nothing }
-        ensures limits { limits result ≡ grid_limits (length cells.old) }
-        ensures order { result.shape.order ≡ RowMajor }
-        ensures memory { length cells.old ≤ 65536 → result.cells.ghost_name ≡ cells.entry.ghost_name }
+        ensures over { Over RowMajor cells.entry result }
     {
         Grid::new_with_order(cells, rows, cols, Order::RowMajor)
     }

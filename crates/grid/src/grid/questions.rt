@@ -2,10 +2,12 @@
 ghost use Rattle.std.specs.Prelude.{◌≡◌, ℕ, ◌*◌, ◌&&◌, length, ◌==◌};
 ghost use Rattle.matrix.specs.Matrix.{Matrix, over};
 ghost use Rattle.matrix.specs.Shapes.{flat};
+ghost use Rattle.matrix.specs.Axes.{along};
 ghost use Rattle.grid.specs.Grids.{matrix, limits, order};
 
 use crate::grid::Grid;
 use flat::calls;
+use matrix::axis::Axis;
 use matrix::limits::Limits;
 use matrix::shape::Order;
 
@@ -17,16 +19,27 @@ impl<'a, T: Copy> Grid<'a, T> {
         (shape.rows, shape.cols)
     }
 
+    // How many lines there are along the axis.
+    pub fn lines(&self, axis: Axis) -> usize
+        ensures answer { result ≡ (along axis (matrix self.now)).rows }
+    {
+        let (rows, cols) = self.size();
+        match axis {
+            Axis::Row => rows,
+            Axis::Col => cols,
+        }
+    }
+
     pub fn rows(&self) -> usize
         ensures answer { result ≡ (matrix self.now).rows }
     {
-        self.shape.fitted(self.cells.len()).rows
+        self.lines(Axis::Row)
     }
 
     pub fn cols(&self) -> usize
         ensures answer { result ≡ (matrix self.now).cols }
     {
-        self.shape.fitted(self.cells.len()).cols
+        self.lines(Axis::Col)
     }
 
     pub fn order(&self) -> Order
@@ -38,8 +51,8 @@ impl<'a, T: Copy> Grid<'a, T> {
     pub fn is_empty(&self) -> bool
         ensures answer { result ≡ ((matrix self.now).rows == 0 && (matrix self.now).cols == 0) }
     {
-        let shape = self.shape.fitted(self.cells.len());
-        shape.rows == 0 && shape.cols == 0
+        let (rows, cols) = self.size();
+        rows == 0 && cols == 0
     }
 
     // The most rows and columns, and the most cells.
@@ -56,6 +69,7 @@ impl<'a, T: Copy> Grid<'a, T> {
         calls::get(self.cells, self.shape, r, c)
     }
 
+    // kept: the very memory that was lent goes back, with the free cells past the count.
     // Ends the grid: its memory, and how many flat cells at its start are the grid's.
     pub fn into_vec(self) -> (&'a mut [T], usize)
         ensures count { result.1 ≡ (matrix self.entry).rows * (matrix self.entry).cols }

@@ -11,6 +11,7 @@ use matrix::shape::Order;
 impl<'a, T: Copy> Grid<'a, T> {
     // Makes a grid of n flat cells and ends it: where the check accepts, the same n cells come out, in the memory that
     // went in, and they are the matrix in flat order.
+    // kept: memory and count as `from_vec` takes them and `into_vec` gives them.
     pub fn round_trip(
         cells: &'a mut [T],
         n: usize,

@@ -1,52 +1,55 @@
 // The calls that turn a grid and flip it.
+// kept: `stays` and `crosses` on each, as on the calls that change lines.
 ghost use Rattle.std.specs.Prelude.{◌≡◌};
 ghost use Rattle.matrix.specs.Matrix.{turned, flip_rows, flip_cols, rotate_left, rotate_right, rotate_half};
-ghost use Rattle.matrix.specs.Shapes.{other};
-ghost use Rattle.grid.specs.Grids.{matrix, limits, order};
+ghost use Rattle.matrix.specs.Axes.{flipped};
+ghost use Rattle.grid.specs.Grids.{matrix, Stays, Crosses};
 
 use crate::grid::Grid;
 use flat::calls;
+use matrix::axis::Axis;
 
 impl<'a, T: Copy> Grid<'a, T> {
     // Rows become columns: the order becomes the other one, and no cell moves.
     pub fn transpose(&mut self)
         ensures effect { matrix self.new ≡ turned (matrix self.old) }
-        ensures limits { limits self.new ≡ limits self.old }
-        ensures order { order self.new ≡ other (order self.old) }
-        ensures memory { self.new.cells.ghost_name ≡ self.old.cells.ghost_name }
+        ensures crosses { Crosses self.old self.new }
         ensures still { self.new.cells.now ≡ self.old.cells.now }
     {
         self.shape = self.shape.turned();
     }
 
+    // The last line along the axis comes first.
+    pub fn flip(&mut self, axis: Axis)
+        ensures effect { matrix self.new ≡ flipped axis (matrix self.old) }
+        ensures stays { Stays self.old self.new }
+    {
+        let shape = self.shape;
+        calls::flip(self.cells, shape, axis);
+    }
+
+    // kept: the two flips by the names that users of a grid know.
     // The last row comes first.
     pub fn flip_rows(&mut self)
         ensures effect { matrix self.new ≡ flip_rows (matrix self.old) }
-        ensures limits { limits self.new ≡ limits self.old }
-        ensures order { order self.new ≡ order self.old }
-        ensures memory { self.new.cells.ghost_name ≡ self.old.cells.ghost_name }
+        ensures stays { Stays self.old self.new }
     {
-        let shape = self.shape;
-        calls::flip_rows(self.cells, shape);
+        self.flip(Axis::Row);
     }
 
     // The last column comes first.
     pub fn flip_cols(&mut self)
         ensures effect { matrix self.new ≡ flip_cols (matrix self.old) }
-        ensures limits { limits self.new ≡ limits self.old }
-        ensures order { order self.new ≡ order self.old }
-        ensures memory { self.new.cells.ghost_name ≡ self.old.cells.ghost_name }
+        ensures stays { Stays self.old self.new }
     {
-        let shape = self.shape;
-        calls::flip_cols(self.cells, shape);
+        self.flip(Axis::Col);
     }
 
+    // kept: two names and two turns; what they share is the transposition alone.
     // A quarter turn against the clock.
     pub fn rotate_left(&mut self)
         ensures effect { matrix self.new ≡ rotate_left (matrix self.old) }
-        ensures limits { limits self.new ≡ limits self.old }
-        ensures order { order self.new ≡ other (order self.old) }
-        ensures memory { self.new.cells.ghost_name ≡ self.old.cells.ghost_name }
+        ensures crosses { Crosses self.old self.new }
     {
         self.transpose();
         self.flip_rows();
@@ -55,9 +58,7 @@ impl<'a, T: Copy> Grid<'a, T> {
     // A quarter turn with the clock.
     pub fn rotate_right(&mut self)
         ensures effect { matrix self.new ≡ rotate_right (matrix self.old) }
-        ensures limits { limits self.new ≡ limits self.old }
-        ensures order { order self.new ≡ other (order self.old) }
-        ensures memory { self.new.cells.ghost_name ≡ self.old.cells.ghost_name }
+        ensures crosses { Crosses self.old self.new }
     {
         self.transpose();
         self.flip_cols();
@@ -66,9 +67,7 @@ impl<'a, T: Copy> Grid<'a, T> {
     // Half a turn.
     pub fn rotate_half(&mut self)
         ensures effect { matrix self.new ≡ rotate_half (matrix self.old) }
-        ensures limits { limits self.new ≡ limits self.old }
-        ensures order { order self.new ≡ order self.old }
-        ensures memory { self.new.cells.ghost_name ≡ self.old.cells.ghost_name }
+        ensures stays { Stays self.old self.new }
     {
         let shape = self.shape;
         calls::rotate_half(self.cells, shape);

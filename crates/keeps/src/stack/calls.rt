@@ -1,20 +1,18 @@
 // A stack over lent memory is a keep.
 ghost use Rattle.std.specs.Prelude.{◌≡◌, ℕ, ◌≤◌, min, [], length};
+ghost use Rattle.matrix.specs.Rules.{cell_limit};
 ghost use Rattle.matrix.proofs.Stores.{capped, taken_within};
 ghost use Rattle.keeps.specs.Stacks.{used, stacked};
 
 use crate::keep::Keep;
 use crate::stack::StackKeep;
 use cells::refusal::Refusal;
-use flat::calls::poke;
-
-// The most cells of a keep.
-const CELLS: usize = 65536;
+use matrix::limits::CELLS;
 
 impl<'a, T: Copy> StackKeep<'a, T> {
     // An empty stack over the memory.
     pub fn new(cells: &'a mut [T]) -> StackKeep<'a, T>
-        ensures effect { stacked result ≡ record { cells = []; most = min (length cells.entry.now) 65536 } }
+        ensures effect { stacked result ≡ record { cells = []; most = min (length cells.entry.now) cell_limit } }
         ensures cells { result.cells.now ≡ cells.old }
         ensures memory { result.cells.ghost_name ≡ cells.entry.ghost_name }
     {
@@ -24,9 +22,9 @@ impl<'a, T: Copy> StackKeep<'a, T> {
     // How many cells are on it.
     fn used_now(&self) -> usize
         ensures answer { result ≡ used (length self.now.cells.now) self.now.used }
-        ensures few { result ≤ min (length self.now.cells.now) 65536 }
+        ensures few { result ≤ min (length self.now.cells.now) cell_limit }
     {
-        if self.used <= self.cells.len().min(CELLS) {
+        if self.used <= self.limit() {
             self.used
         } else {
             0
@@ -42,9 +40,9 @@ impl<'a, T: Copy> Keep for StackKeep<'a, T> {
     // A stack is always in order.
     ghost ordered = { λ _. Unit {0} };
 
-    ghost small = { λ k. record { most = capped (length k.cells.now) 65536 } };
+    ghost small = { λ k. record { most = capped (length k.cells.now) cell_limit } };
 
-    ghost within = { λ k _. record { cells = taken_within k.cells.now k.used 65536 } };
+    ghost within = { λ k _. record { cells = taken_within k.cells.now k.used cell_limit } };
 
     fn limit(&self) -> usize {
         self.cells.len().min(CELLS)
@@ -56,22 +54,18 @@ impl<'a, T: Copy> Keep for StackKeep<'a, T> {
 
     fn push(&mut self, x: T) -> Result<(), Refusal> {
         let n = self.used_now();
-        if CELLS <= n || self.cells.len() <= n {
+        if self.limit() <= n {
             return Err(Refusal::Keep);
         }
-        poke(self.cells, n, x);
+        self.cells[n] = x;
         self.used = n + 1;
         Ok(())
     }
 
     fn take(&mut self) -> Option<T> {
-        let n = self.used_now();
-        if n == 0 {
-            return None;
-        }
-        let x = self.cells[n - 1];
-        self.used = n - 1;
-        Some(x)
+        let n = self.used_now().checked_sub(1)?;
+        self.used = n;
+        Some(self.cells[n])
     }
 
     fn clear(&mut self) {

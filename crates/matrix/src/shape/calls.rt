@@ -1,10 +1,13 @@
 // What a shape answers.
 ghost use Rattle.std.specs.Prelude.{◌≡◌, ℕ, ◌*◌, ◌≤◌};
 ghost use Rattle.matrix.specs.Shapes.{Form, form, other, turned_form, vacant, fitted};
+ghost use Rattle.matrix.specs.Axes.{along_form};
 
+use crate::axis::Axis;
 use crate::shape::{Order, Shape};
 
 impl Order {
+    // kept: a name that says what is exchanged, which `!order` would not.
     pub fn counterpart(self) -> Order
         ensures answer { result ≡ other self }
     {
@@ -35,6 +38,16 @@ impl Shape {
             rows: self.cols,
             cols: self.rows,
             order: self.order.counterpart(),
+        }
+    }
+
+    // The shape whose rows are the lines along the axis: this one, or this one turned.
+    pub fn along(self, axis: Axis) -> Shape
+        ensures answer { form result ≡ along_form axis (form self) }
+    {
+        match axis {
+            Axis::Row => self,
+            Axis::Col => self.turned(),
         }
     }
 

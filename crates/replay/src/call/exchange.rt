@@ -7,6 +7,7 @@ use crate::call::Call;
 use flat::calls::poke;
 
 impl<T: Copy> Call<T> {
+    // kept: rows and columns change places in its numbers too, which no derive says.
     pub fn exchanged(self) -> Call<T>
         ensures answer { result ≡ exchange self }
     {
@@ -32,8 +33,9 @@ impl<T: Copy> Call<T> {
 pub(crate) fn exchange_all<T: Copy>(calls: &[Call<T>], exchanged: &mut [Call<T>])
     ensures effect { exchanged.new ≡ over (map exchange (take (length exchanged.old) calls.now)) exchanged.old }
 {
+    // kept: of a zip with exchanged.iter_mut() a proof knows no element after the loop
     let n = calls.len().min(exchanged.len());
-    for k in 0..n {
-        poke(exchanged, k, calls[k].exchanged());
+    for (k, call) in calls[..n].iter().enumerate() {
+        poke(exchanged, k, call.exchanged());
     }
 }

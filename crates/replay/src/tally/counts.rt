@@ -5,53 +5,41 @@ ghost use Rattle.replay.specs.Tallies.{aim, granted, told, accepts, backs, settl
 use crate::call::{Answer, Call};
 use crate::tally::{Aim, Tally};
 
-fn aim_of<T: Copy>(call: Call<T>) -> Aim
-    ensures answer { result ≡ aim call }
-{
-    match call {
-        Call::Put(_, _, _) => Aim::Editing,
-        Call::Insert(_, _, _) => Aim::Editing,
-        Call::Remove(_, _, _) => Aim::Editing,
-        Call::Transpose => Aim::Editing,
-        Call::Flip(_) => Aim::Editing,
-        Call::StepBack(_) => Aim::Undoing,
-        Call::Publish => Aim::Settling,
-        Call::Reopen => Aim::Asking,
-        Call::Get(_, _) => Aim::Asking,
-        Call::Size => Aim::Asking,
-        Call::Owed => Aim::Asking,
-        Call::Kept => Aim::Asking,
-        Call::Settled => Aim::Asking,
+impl<T: Copy> Call<T> {
+    fn aim(self) -> Aim
+        ensures answer { result ≡ aim self }
+    {
+        match self {
+            Call::Put(..) | Call::Insert(..) | Call::Remove(..) | Call::Transpose | Call::Flip(_) =>
+                { Aim::Editing }
+            Call::StepBack(_) => Aim::Undoing,
+            Call::Publish => Aim::Settling,
+            Call::Reopen | Call::Get(..) | Call::Size | Call::Owed | Call::Kept | Call::Settled => {
+                Aim::Asking
+            }
+        }
     }
 }
 
-// 1 where the call was accepted.
-fn granted_by<T: Copy>(answer: Answer<T>) -> usize
-    ensures answer { result ≡ granted answer }
-{
-    match answer {
-        Answer::Said(said) => match said {
-            Ok(()) => 1,
-            Err(_) => 0,
-        },
-        Answer::Cell(_) => 0,
-        Answer::Sized(_, _) => 0,
-        Answer::Count(_) => 0,
-        Answer::Moved => 0,
-        Answer::Lacking => 0,
+impl<T: Copy> Answer<T> {
+    // 1 where the call was accepted.
+    fn granted(self) -> usize
+        ensures answer { result ≡ granted self }
+    {
+        match self {
+            Answer::Said(Ok(())) => 1,
+            _ => 0,
+        }
     }
-}
 
-fn told_by<T: Copy>(answer: Answer<T>) -> usize
-    ensures answer { result ≡ told answer }
-{
-    match answer {
-        Answer::Said(_) => 0,
-        Answer::Cell(_) => 0,
-        Answer::Sized(_, _) => 0,
-        Answer::Count(n) => n,
-        Answer::Moved => 0,
-        Answer::Lacking => 0,
+    // The number that it tells.
+    fn told(self) -> usize
+        ensures answer { result ≡ told self }
+    {
+        match self {
+            Answer::Count(n) => n,
+            _ => 0,
+        }
     }
 }
 
@@ -62,11 +50,7 @@ impl Tally {
         ensures back { result.back ≡ 0 }
         ensures settled { result.settled ≡ 0 }
     {
-        Tally {
-            accepted: 0,
-            back: 0,
-            settled: 0,
-        }
+        Tally::default()
     }
 
     // With one more call and its answer.
@@ -75,21 +59,18 @@ impl Tally {
         ensures back { result.back ≡ capped (self.back + backs (aim call) answer) }
         ensures settled { result.settled ≡ capped (self.settled + settles (aim call) answer) }
     {
-        match aim_of(call) {
+        match call.aim() {
             Aim::Editing => Tally {
-                accepted: self.accepted.saturating_add(granted_by(answer)),
-                back: self.back,
-                settled: self.settled,
+                accepted: self.accepted.saturating_add(answer.granted()),
+                ..self
             },
             Aim::Undoing => Tally {
-                accepted: self.accepted,
-                back: self.back.saturating_add(granted_by(answer)),
-                settled: self.settled,
+                back: self.back.saturating_add(answer.granted()),
+                ..self
             },
             Aim::Settling => Tally {
-                accepted: self.accepted,
-                back: self.back,
-                settled: self.settled.saturating_add(told_by(answer)),
+                settled: self.settled.saturating_add(answer.told()),
+                ..self
             },
             Aim::Asking => self,
         }

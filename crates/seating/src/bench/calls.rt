@@ -4,17 +4,18 @@ ghost use Rattle.matrix.specs.Matrix.{spliced, skipped};
 ghost use Rattle.seating.specs.Benches.{seat, flipped};
 
 use crate::bench::Bench;
+use matrix::limits::SIDE;
+use std::array::from_fn;
 
 // The entry at n goes to i, and those from i on move up by one.
+// kept: i and n are the bounds of one move; a struct of them would be made and read once.
 fn shift_in(t: &mut [u16], i: usize, n: usize)
     requires at { i ≤ n }
     requires room { n < length t.old }
     ensures moved { (k : ℕ) → k < n + 1 → slice_index t.new k ≡ spliced i (slice_index t.old n) (λ j. slice_index t.old j) k }
     ensures above { (k : ℕ) → n < k → slice_index t.new k ≡ slice_index t.old k }
 {
-    let x = t[n];
-    t.copy_within(i..n, i + 1);
-    t[i] = x;
+    t[i..n + 1].rotate_right(1);
 }
 
 // The entry at i goes to n, and those after i up to n move down by one.
@@ -25,9 +26,7 @@ fn shift_out(t: &mut [u16], i: usize, n: usize)
     ensures freed { slice_index t.new n ≡ slice_index t.old i }
     ensures above { (k : ℕ) → n < k → slice_index t.new k ≡ slice_index t.old k }
 {
-    let x = t[i];
-    t.copy_within(i + 1..n + 1, i);
-    t[n] = x;
+    t[i..n + 1].rotate_left(1);
 }
 
 // The first n entries back to front.
@@ -35,12 +34,13 @@ fn turn_front(t: &mut [u16], n: usize)
     requires room { n ≤ length t.old }
     ensures effect { t.new ≡ flipped n t.old }
 {
-    let part = &mut t[0..n];
-    part.reverse();
+    t[..n].reverse();
 }
 
+// kept: no Model as a list, since `opened` hands out the free seats in their order, which the list of lines has not.
 impl Bench {
     // Line i takes the first free seat; later lines move by one.
+    // kept: that the side stays is one equation, and a word for it would be no shorter.
     pub(crate) fn opened(self, i: usize) -> Bench
         requires at { i ≤ self.count }
         requires room { self.count < self.side }
@@ -50,6 +50,7 @@ impl Bench {
     {
         let mut table = self.table;
         shift_in(&mut table, i, self.count);
+        // kept: all fields by name here and below, since `..self` is not taken at a struct with ghost fields
         Bench {
             side: self.side,
             count: self.count + 1,
@@ -103,14 +104,10 @@ impl Bench {
         ensures side { result.side ≡ (if nat_le side 256 then side else 0) }
         ensures count { result.count ≡ 0 }
     {
-        let mut table = [0; 256];
-        for k in 0..256 {
-            table[k] = k as u16;
-        }
         Bench {
-            side: if side <= 256 { side } else { 0 },
+            side: if side <= SIDE { side } else { 0 },
             count: 0,
-            table,
+            table: from_fn(|k| k as u16),
         }
     }
 }

@@ -1,22 +1,60 @@
 // The calls of a board on memory and a seating: any memory, any number gets the fixed answer.
-ghost use Rattle.std.specs.Prelude.{◌≡◌, ℕ, ◌+◌, ◌*◌, ◌<◌, ◌≤◌, not, if◌then◌else◌, nat_le};
+ghost use Rattle.std.specs.Prelude.{◌≡◌, ◌*◌, ◌<◌, ◌≤◌, if◌then◌else◌, nat_le};
+ghost use Rattle.matrix.specs.Axes.{other};
 ghost use Rattle.matrix.specs.declared.limits.Limits.{Limits};
 ghost use Rattle.seating.specs.Benches.{flipped};
-ghost use Rattle.seating.specs.Seats.{spot_of, counted, seated_limits, spots, Exchanged};
+ghost use Rattle.seating.specs.Seats.{spot_of, counted, seated_limits, spots, bench_of, Faced, Opened, Closed};
 
 use crate::bench::Bench;
 use crate::seating::Seating;
+use matrix::axis::Axis;
 use matrix::limits::Limits;
 
 impl Seating {
-    // Rows for columns: the same cells, seen turned.
-    pub(crate) fn exchanged(self) -> Seating
-        ensures answer { Exchanged self result }
+    // The lines along the axis for its rows: the same cells, seen turned where those are columns.
+    pub(crate) fn along(self, axis: Axis) -> Seating
+        ensures answer { Faced axis self result }
+    {
+        // kept: each arm is another seating, and no step to hand over
+        match axis {
+            Axis::Row => self,
+            Axis::Col => Seating {
+                down: self.across,
+                across: self.down,
+                lying: self.lying.other(),
+            },
+        }
+    }
+
+    // Row i on the first seat that is free, and n columns.
+    pub(crate) fn opened(self, i: usize, n: usize) -> Seating
+        requires at { i ≤ self.down.count }
+        requires some { 0 < n }
+        requires tall { self.down.count < self.down.side }
+        requires wide { n ≤ self.down.side }
+        ensures effect { Opened self result i n }
     {
         Seating {
-            down: self.across,
-            across: self.down,
-            crossed: !self.crossed,
+            down: self.down.opened(i),
+            across: self.across.counted(n),
+            lying: self.lying,
+        }
+    }
+
+    // Without row i, whose seat is free; without a column once no row is left.
+    pub(crate) fn closed(self, i: usize) -> Seating
+        requires at { i < self.down.count }
+        ensures effect { Closed self result i }
+    {
+        let columns = if self.down.count == 1 {
+            0
+        } else {
+            self.across.count
+        };
+        Seating {
+            down: self.down.closed(i),
+            across: self.across.counted(columns),
+            lying: self.lying,
         }
     }
 
@@ -30,7 +68,7 @@ impl Seating {
         Seating {
             down: bench,
             across: bench,
-            crossed: false,
+            lying: Axis::Row,
         }
     }
 
@@ -58,28 +96,23 @@ impl Seating {
         }
     }
 
-    // The rows end for end, in place.
-    pub fn flip_down(&mut self)
-        ensures table { self.new.down.table ≡ flipped self.old.down.count self.old.down.table }
-        ensures rows { self.new.down.count ≡ self.old.down.count }
-        ensures side { self.new.down.side ≡ self.old.down.side }
-        ensures across { self.new.across ≡ self.old.across }
-        ensures crossed { self.new.crossed ≡ self.old.crossed }
+    // The lines along the axis end for end, in place.
+    pub fn flip(&mut self, axis: Axis)
+        ensures table { (bench_of axis self.new).table ≡ flipped (bench_of axis self.old).count (bench_of axis self.old).table }
+        ensures count { (bench_of axis self.new).count ≡ (bench_of axis self.old).count }
+        ensures side { (bench_of axis self.new).side ≡ (bench_of axis self.old).side }
+        ensures across { bench_of (other axis) self.new ≡ bench_of (other axis) self.old }
+        ensures lying { self.new.lying ≡ self.old.lying }
     {
-        self.down.flip();
-    }
-
-    // The columns end for end, in place.
-    pub fn flip_across(&mut self)
-        ensures table { self.new.across.table ≡ flipped self.old.across.count self.old.across.table }
-        ensures cols { self.new.across.count ≡ self.old.across.count }
-        ensures down { self.new.down ≡ self.old.down }
-        ensures crossed { self.new.crossed ≡ self.old.crossed }
-    {
-        self.across.flip();
+        // kept: each arm is another field, and no step to hand over
+        match axis {
+            Axis::Row => self.down.flip(),
+            Axis::Col => self.across.flip(),
+        }
     }
 
     // The flat place of row r and column c over n cells of memory, absent outside.
+    // kept: r and c, as every call of a board names them; a struct would be made for each call.
     pub fn place(&self, n: usize, r: usize, c: usize) -> Option<usize>
         ensures answer { result ≡ (spots self.now n).cell r c }
     {
@@ -100,10 +133,9 @@ impl Seating {
     {
         let a = self.down.table[r] as usize;
         let b = self.across.table[c] as usize;
-        if self.crossed {
-            b * self.down.side + a
-        } else {
-            a * self.down.side + b
+        match self.lying {
+            Axis::Row => a * self.down.side + b,
+            Axis::Col => b * self.down.side + a,
         }
     }
 }

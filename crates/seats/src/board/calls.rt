@@ -1,27 +1,48 @@
 // The seat board is a board.
 ghost use Rattle.std.specs.Prelude.{◌≡◌, length};
+ghost use Rattle.matrix.specs.Axes.{along};
 ghost use Rattle.matrix.specs.Matrix.{Matrix};
-ghost use Rattle.seating.specs.Seats.{facing, spots};
-ghost use Rattle.seating.proofs.Owes.{facing_within};
+ghost use Rattle.seating.specs.Seats.{spots};
+ghost use Rattle.seating.proofs.Owes.{along_within};
 ghost use Rattle.seats.specs.Boards as boards;
+ghost use Rattle.seats.specs.Boards.{beneath, ordered};
 
 use crate::board::SeatBoard;
 use boards::board::Board;
 use cells::refusal::Refusal;
 use flat::calls::poke;
+use matrix::axis::Axis;
 use matrix::limits::Limits;
 use seating::seating::places::seated_at;
 
 impl<'a, T: Copy> SeatBoard<'a, T> {
+    // The axis of the tables that the board's axis is.
+    fn beneath(&self, axis: Axis) -> Axis
+        ensures answer { result ≡ beneath self.now.facing axis }
+    {
+        match self.facing {
+            Axis::Row => axis,
+            Axis::Col => axis.other(),
+        }
+    }
+
+    // kept: r and c, and axis and i below, as the interface names them; a struct would be made for each call.
+    // A row and a column of the board as the tables have them, and back.
+    fn ordered(&self, r: usize, c: usize) -> (usize, usize)
+        ensures answer { result ≡ ordered self.now.facing r c }
+    {
+        match self.facing {
+            Axis::Row => (r, c),
+            Axis::Col => (c, r),
+        }
+    }
+
     // The flat place of row r and column c, absent outside.
     fn place(&self, r: usize, c: usize) -> Option<usize>
-        ensures answer { result ≡ (facing self.now.turned (spots self.now.seats (length self.now.cells.now))).cell r c }
+        ensures answer { result ≡ (along self.now.facing (spots self.now.seats (length self.now.cells.now))).cell r c }
     {
-        if self.turned {
-            self.seats.place(self.cells.len(), c, r)
-        } else {
-            self.seats.place(self.cells.len(), r, c)
-        }
+        let (row, col) = self.ordered(r, c);
+        self.seats.place(self.cells.len(), row, col)
     }
 }
 
@@ -32,15 +53,11 @@ impl<'a, T: Copy> Board for SeatBoard<'a, T> {
 
     ghost limits = { λ b. boards.limits b };
 
-    ghost within = { λ b. facing_within b.turned b.seats b.cells.now };
+    ghost within = { λ b. along_within b.facing b.seats b.cells.now };
 
     fn size(&self) -> (usize, usize) {
         let (rows, cols) = self.seats.size(self.cells.len());
-        if self.turned {
-            (cols, rows)
-        } else {
-            (rows, cols)
-        }
+        self.ordered(rows, cols)
     }
 
     fn bounds(&self) -> Limits {
@@ -48,59 +65,33 @@ impl<'a, T: Copy> Board for SeatBoard<'a, T> {
     }
 
     fn get(&self, r: usize, c: usize) -> Option<T> {
-        if self.turned {
-            seated_at(self.cells, &self.seats, c, r)
-        } else {
-            seated_at(self.cells, &self.seats, r, c)
-        }
+        let (row, col) = self.ordered(r, c);
+        seated_at(self.cells, &self.seats, row, col)
     }
 
     fn put(&mut self, r: usize, c: usize, x: T) -> Result<(), Refusal> {
-        match self.place(r, c) {
-            Some(k) => {
-                poke(self.cells, k, x);
-                Ok(())
-            }
-            None => Err(Refusal::Place),
-        }
+        let k = self.place(r, c).ok_or(Refusal::Place)?;
+        poke(self.cells, k, x);
+        Ok(())
     }
 
-    fn insert_row(&mut self, i: usize, line: &[T]) -> Result<(), Refusal> {
-        self.seat_line(self.turned, i, line)
+    fn insert(&mut self, axis: Axis, i: usize, line: &[T]) -> Result<(), Refusal> {
+        let beneath = self.beneath(axis);
+        self.seat_line(beneath, i, line)
     }
 
-    fn insert_col(&mut self, i: usize, line: &[T]) -> Result<(), Refusal> {
-        self.seat_line(!self.turned, i, line)
+    fn remove(&mut self, axis: Axis, i: usize, memory: &mut [T]) -> Result<(), Refusal> {
+        let beneath = self.beneath(axis);
+        self.free_line(beneath, i, memory)
     }
 
-    fn remove_row(&mut self, i: usize, memory: &mut [T]) -> Result<(), Refusal> {
-        self.free_line(self.turned, i, memory)
-    }
-
-    fn remove_col(&mut self, i: usize, memory: &mut [T]) -> Result<(), Refusal> {
-        self.free_line(!self.turned, i, memory)
-    }
-
-    // The flag alone.
+    // The facing alone.
     fn transpose(&mut self) {
-        self.turned = !self.turned;
+        self.facing = self.facing.other();
     }
 
-    fn flip_rows(&mut self) {
-        let across = self.turned;
-        if across {
-            self.seats.flip_across();
-        } else {
-            self.seats.flip_down();
-        }
-    }
-
-    fn flip_cols(&mut self) {
-        let down = self.turned;
-        if down {
-            self.seats.flip_down();
-        } else {
-            self.seats.flip_across();
-        }
+    fn flip(&mut self, axis: Axis) {
+        let beneath = self.beneath(axis);
+        self.seats.flip(beneath);
     }
 }

@@ -1,52 +1,43 @@
-// Lines that go onto seats and come off them, along a flag: a column of a board that is turned is a row of its tables.
+// Lines that go onto seats and come off them, along an axis of the tables: a column of a board that is turned is a row there.
 ghost use Rattle.std.specs.Prelude.{◌≡◌};
 ghost use Rattle.cells.specs.Refusals.{answered};
-ghost use Rattle.matrix.specs.Matrix.{insert_row, remove_row, row, over};
-ghost use Rattle.matrix.specs.Rules.{insert_row_answer, remove_row_answer};
+ghost use Rattle.matrix.specs.Matrix.{over};
+ghost use Rattle.matrix.specs.Axes.{inserted, removed, line_of, insert_along, remove_along};
 ghost use Rattle.seating.specs.Lines.{line_spots, Placed};
-ghost use Rattle.seating.specs.Seats.{facing};
 ghost use Rattle.seats.specs.Boards.{upright, limits};
 
 use crate::board::SeatBoard;
 use cells::refusal::Refusal;
+use matrix::axis::Axis;
 use seating::seating::edits;
 
 impl<'a, T: Copy> SeatBoard<'a, T> {
-    // The line goes onto a free seat, as row i of the tables, or column i of them where `across`.
-    pub fn seat_line(&mut self, across: bool, i: usize, line: &[T]) -> Result<(), Refusal>
-        ensures answer { result ≡ insert_row_answer (limits self.old) i line.now (facing across (upright self.old)) }
-        ensures effect { facing across (upright self.new) ≡ answered result (insert_row i line.now (facing across (upright self.old))) (facing across (upright self.old)) }
-        ensures cells { Placed (λ _. line_spots across i self.new.seats) result line.now self.old.cells.now self.new.cells.now }
+    // The line goes onto a free seat, as line i along the axis of the tables.
+    pub fn seat_line(&mut self, axis: Axis, i: usize, line: &[T]) -> Result<(), Refusal>
+        ensures answer { result ≡ insert_along (limits self.old) axis i line.now (upright self.old) }
+        ensures effect { upright self.new ≡ answered result (inserted axis i line.now (upright self.old)) (upright self.old) }
+        ensures cells { Placed (λ _. line_spots axis i self.new.seats) result line.now self.old.cells.now self.new.cells.now }
         ensures limits { limits self.new ≡ limits self.old }
-        ensures turned { self.new.turned ≡ self.old.turned }
+        ensures facing { self.new.facing ≡ self.old.facing }
         ensures memory { self.new.cells.ghost_name ≡ self.old.cells.ghost_name }
     {
         let seats = self.seats;
-        if across {
-            self.seats = edits::insert_col(self.cells, seats, i, line)?;
-            return Ok(());
-        }
-        self.seats = edits::insert_row(self.cells, seats, i, line)?;
+        self.seats = edits::insert(self.cells, seats, axis, i, line)?;
         Ok(())
     }
 
-    // Row i of the tables, or column i of them where `across`, goes into the first cells of the memory, and its seat is
-    // free: no cell changes.
-    pub fn free_line(&mut self, across: bool, i: usize, memory: &mut [T]) -> Result<(), Refusal>
-        ensures answer { result ≡ remove_row_answer i memory.old (facing across (upright self.old)) }
-        ensures effect { facing across (upright self.new) ≡ answered result (remove_row i (facing across (upright self.old))) (facing across (upright self.old)) }
-        ensures line { memory.new ≡ answered result (over (row i (facing across (upright self.old))) memory.old) memory.old }
+    // Line i along the axis of the tables goes into the first cells of the memory, and its seat is free: no cell changes.
+    pub fn free_line(&mut self, axis: Axis, i: usize, memory: &mut [T]) -> Result<(), Refusal>
+        ensures answer { result ≡ remove_along axis i memory.old (upright self.old) }
+        ensures effect { upright self.new ≡ answered result (removed axis i (upright self.old)) (upright self.old) }
+        ensures line { memory.new ≡ answered result (over (line_of axis i (upright self.old)) memory.old) memory.old }
         ensures cells { self.new.cells.now ≡ self.old.cells.now }
         ensures limits { limits self.new ≡ limits self.old }
-        ensures turned { self.new.turned ≡ self.old.turned }
+        ensures facing { self.new.facing ≡ self.old.facing }
         ensures memory { self.new.cells.ghost_name ≡ self.old.cells.ghost_name }
     {
         let seats = self.seats;
-        if across {
-            self.seats = edits::remove_col(self.cells, seats, i, memory)?;
-            return Ok(());
-        }
-        self.seats = edits::remove_row(self.cells, seats, i, memory)?;
+        self.seats = edits::remove(self.cells, seats, axis, i, memory)?;
         Ok(())
     }
 }

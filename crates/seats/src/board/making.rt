@@ -5,10 +5,9 @@ ghost use Rattle.seats.specs.Boards.{matrix, limits, seats_answer, made_limits};
 
 use crate::board::SeatBoard;
 use cells::refusal::Refusal;
+use matrix::axis::Axis;
+use matrix::limits::SIDE;
 use seating::seating::Seating;
-
-// The most rows and the most columns.
-const SIDE: usize = 256;
 
 // Whether a memory has room for a board of `side` rows and columns.
 pub fn seats_check(memory: usize, side: usize) -> Result<(), Refusal>
@@ -28,15 +27,16 @@ impl<'a, T: Copy> SeatBoard<'a, T> {
         ensures cells { result.cells.now ≡ cells.old }
         ensures memory { result.cells.ghost_name ≡ cells.entry.ghost_name }
     {
-        let side = match seats_check(cells.len(), side) {
-            Ok(()) => side,
-            Err(_) => 0,
+        let side = if seats_check(cells.len(), side).is_ok() {
+            side
+        } else {
+            0
         };
         let seats = Seating::empty(side);
         SeatBoard {
             cells,
             seats,
-            turned: false,
+            facing: Axis::Row,
         }
     }
 
@@ -48,7 +48,7 @@ impl<'a, T: Copy> SeatBoard<'a, T> {
         let SeatBoard {
             cells,
             seats: _,
-            turned: _,
+            facing: _,
         } = self;
         cells
     }

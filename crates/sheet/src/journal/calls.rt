@@ -1,51 +1,57 @@
 // What a journal notes and strikes.
-ghost use Rattle.std.specs.Prelude.{◌≡◌, ℕ, ◌<◌, [], ◌∷◌, ◌++◌, length};
+ghost use Rattle.std.specs.Prelude.{◌≡◌, ℕ, ◌<◌, [], ◌∷◌, ◌++◌, length, nat_le};
+ghost use Rattle.cells.specs.Refusals.{refused, accepted};
 ghost use Rattle.keeps.specs.Kept.{newest, older};
-ghost use Rattle.sheet.specs.Stands.{noted};
+ghost use Rattle.sheet.specs.Book.{owed_limit};
 
 use crate::edit::Edit;
-use crate::journal::Journal;
+use crate::journal::{Journal, OWED};
+use cells::refusal::Refusal;
 
 impl Journal {
     pub(crate) fn new() -> Journal
-        ensures effect { noted result ≡ [] }
+        ensures effect { result ≡ [] }
     {
         Journal {
-            edits: [Edit::Transpose; 256],
+            edits: [Edit::Transpose; OWED],
             owed: 0,
         }
     }
 
     pub(crate) fn count(&self) -> usize
-        ensures answer { result ≡ length (noted self.now) }
+        ensures answer { result ≡ length self.now }
     {
         self.owed
     }
 
-    pub(crate) fn note(&mut self, e: Edit)
-        ensures effect { length (noted self.old) < 256 → noted self.new ≡ noted self.old ++ (e ∷ []) }
+    // Whether one more edit may be owed.
+    pub(crate) fn room(&self) -> Result<(), Refusal>
+        ensures answer { result ≡ refused 10 (nat_le owed_limit (length self.now)) accepted }
     {
-        if self.owed < 256 {
+        if OWED <= self.owed {
+            return Err(Refusal::Journal);
+        }
+        Ok(())
+    }
+
+    pub(crate) fn note(&mut self, e: Edit)
+        ensures effect { length self.old < owed_limit → self.new ≡ self.old ++ (e ∷ []) }
+    {
+        if self.owed < OWED {
             self.edits[self.owed] = e;
             self.owed += 1;
         }
     }
 
     pub(crate) fn last(&self) -> Option<Edit>
-        ensures answer { result ≡ newest (noted self.now) }
+        ensures answer { result ≡ newest self.now }
     {
-        if self.owed > 0 {
-            Some(self.edits[self.owed - 1])
-        } else {
-            None
-        }
+        self.edits[..self.owed].last().copied()
     }
 
     pub(crate) fn strike(&mut self)
-        ensures effect { noted self.new ≡ older (noted self.old) }
+        ensures effect { self.new ≡ older self.old }
     {
-        if self.owed > 0 {
-            self.owed -= 1;
-        }
+        self.owed = self.owed.saturating_sub(1);
     }
 }

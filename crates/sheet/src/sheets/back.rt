@@ -3,7 +3,6 @@ ghost use Rattle.std.specs.Prelude.{◌≡◌};
 ghost use Rattle.sheet.specs.Book.{back_said, back_book, back_memory};
 ghost use Rattle.sheet.specs.Sheets.{Follows, Leaves};
 
-use crate::axis;
 use crate::edit::Edit;
 use crate::sheets::OpenSheet;
 use boards::board::Board;
@@ -14,48 +13,36 @@ use keeps::lines::pull_line;
 impl<B: Board, K: Keep<Cell = B::Cell>> OpenSheet<B, K> {
     // Undoes the newest owed edit. The line that it put in or took out lies in the first cells of the memory.
     pub fn step_back(&mut self, memory: &mut [B::Cell]) -> Result<(), Refusal>
-        ensures follows { Follows B.Board.matrix B.Board.limits K.Keep.ordered K.Keep.store self.old self.new result (back_said memory.old) (back_book memory.old) }
-        ensures leaves { Leaves B.Board.matrix B.Board.limits K.Keep.ordered K.Keep.store self.old memory.new (back_memory memory.old) }
+        ensures follows { Follows B.Board K.Keep self.old self.new result (back_said memory.old) (back_book memory.old) }
+        ensures leaves { Leaves B.Board K.Keep self.old memory.new (back_memory memory.old) }
     {
-        match self.journal.last() {
-            None => Err(Refusal::NothingOwed),
-            Some(edit) => match edit {
-                Edit::Put(r, c) => match self.keep.take() {
-                    None => Err(Refusal::NothingOwed),
-                    Some(old) => {
-                        let _ = self.board.put(r, c, old);
-                        self.journal.strike();
-                        Ok(())
-                    }
-                },
-                Edit::Insert(axis, i, n) => {
-                    if memory.len() < n {
-                        return Err(Refusal::Short);
-                    }
-                    let _ = axis::remove(&mut self.board, axis, i, memory);
-                    self.journal.strike();
-                    Ok(())
+        let Some(edit) = self.journal.last() else {
+            return Err(Refusal::NothingOwed);
+        };
+        match edit {
+            Edit::Put(r, c) => {
+                let Some(old) = self.keep.take() else {
+                    return Err(Refusal::NothingOwed);
+                };
+                let _ = self.board.put(r, c, old);
+            }
+            Edit::Insert(axis, i, n) => {
+                if memory.len() < n {
+                    return Err(Refusal::Short);
                 }
-                Edit::Remove(axis, i, n) => {
-                    if memory.len() < n {
-                        return Err(Refusal::Short);
-                    }
-                    pull_line(&mut self.keep, &mut memory[0..n]);
-                    let _ = axis::insert(&mut self.board, axis, i, &memory[0..n]);
-                    self.journal.strike();
-                    Ok(())
+                let _ = self.board.remove(axis, i, memory);
+            }
+            Edit::Remove(axis, i, n) => {
+                if memory.len() < n {
+                    return Err(Refusal::Short);
                 }
-                Edit::Transpose => {
-                    self.board.transpose();
-                    self.journal.strike();
-                    Ok(())
-                }
-                Edit::Flip(axis) => {
-                    axis::flip(&mut self.board, axis);
-                    self.journal.strike();
-                    Ok(())
-                }
-            },
+                pull_line(&mut self.keep, &mut memory[..n]);
+                let _ = self.board.insert(axis, i, &memory[..n]);
+            }
+            Edit::Transpose => self.board.transpose(),
+            Edit::Flip(axis) => self.board.flip(axis),
         }
+        self.journal.strike();
+        Ok(())
     }
 }

@@ -10,25 +10,25 @@ use keeps::keep::Keep;
 
 impl<B: Board, K: Keep<Cell = B::Cell>> OpenSheet<B, K> {
     pub fn size(&self) -> (usize, usize)
-        ensures answer { (b : Book B.Cell) → Stands B.Board.matrix B.Board.limits K.Keep.ordered K.Keep.store self.now b → result ≡ (b.matrix.rows, b.matrix.cols) }
+        ensures answer { (b : Book B.Cell) → Stands B.Board K.Keep self.now b → result ≡ (b.matrix.rows, b.matrix.cols) }
     {
         self.board.size()
     }
 
     pub fn get(&self, r: usize, c: usize) -> Option<B::Cell>
-        ensures answer { (b : Book B.Cell) → Stands B.Board.matrix B.Board.limits K.Keep.ordered K.Keep.store self.now b → result ≡ b.matrix.cell r c }
+        ensures answer { (b : Book B.Cell) → Stands B.Board K.Keep self.now b → result ≡ b.matrix.cell r c }
     {
         self.board.get(r, c)
     }
 
     pub fn owed(&self) -> usize
-        ensures answer { (b : Book B.Cell) → Stands B.Board.matrix B.Board.limits K.Keep.ordered K.Keep.store self.now b → result ≡ length b.entries }
+        ensures answer { (b : Book B.Cell) → Stands B.Board K.Keep self.now b → result ≡ length b.entries }
     {
         self.journal.count()
     }
 
     pub fn kept(&self) -> usize
-        ensures answer { (b : Book B.Cell) → Stands B.Board.matrix B.Board.limits K.Keep.ordered K.Keep.store self.now b → result ≡ length (kept b.entries) }
+        ensures answer { (b : Book B.Cell) → Stands B.Board K.Keep self.now b → result ≡ length (kept b.entries) }
     {
         self.keep.count()
     }
@@ -38,11 +38,6 @@ impl<B: Board, K: Keep<Cell = B::Cell>> OpenSheet<B, K> {
         ensures board { result.0 ≡ self.board }
         ensures keep { result.1 ≡ self.keep }
     {
-        let OpenSheet {
-            board,
-            keep,
-            journal: _,
-        } = self;
-        (board, keep)
+        (self.board, self.keep)
     }
 }

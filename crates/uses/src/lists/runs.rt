@@ -1,5 +1,6 @@
 // Running a list of board calls, and two boards beside each other.
-ghost use Rattle.std.specs.Prelude.{◌≡◌, ℕ, ◌<◌, List, length, take, slice_set};
+// kept: `limits` as on the calls of a board.
+ghost use Rattle.std.specs.Prelude.{◌≡◌, ℕ, List, length, take};
 ghost use Rattle.matrix.specs.Matrix.{Matrix, over};
 ghost use Rattle.uses.specs.Lists.{State, stretch, reply, next, after, replies, Alike};
 
@@ -33,33 +34,21 @@ fn one<B: Board>(
         }
         Call::Get(r, c) => Answer::Cell(b.get(r, c)),
         Call::Put(r, c, x) => Answer::Said(b.put(r, c, x)),
-        Call::InsertRow(i, from, n) => Answer::Said(b.insert_row(i, part(lines, from, n))),
-        Call::InsertCol(i, from, n) => Answer::Said(b.insert_col(i, part(lines, from, n))),
-        Call::RemoveRow(i) => Answer::Said(b.remove_row(i, memory)),
-        Call::RemoveCol(i) => Answer::Said(b.remove_col(i, memory)),
+        Call::Insert(axis, i, from, n) => Answer::Said(b.insert(axis, i, part(lines, from, n))),
+        Call::Remove(axis, i) => Answer::Said(b.remove(axis, i, memory)),
         Call::Transpose => {
             b.transpose();
             Answer::Done
         }
-        Call::FlipRows => {
-            b.flip_rows();
-            Answer::Done
-        }
-        Call::FlipCols => {
-            b.flip_cols();
+        Call::Flip(axis) => {
+            b.flip(axis);
             Answer::Done
         }
     }
 }
 
-fn write<T: Copy>(s: &mut [T], k: usize, x: T)
-    requires inside { k < length s.old }
-    ensures effect { s.new ≡ slice_set s.old k x }
-{
-    s[k] = x;
-}
-
 // Makes the calls of a list in order, as many as there is room for answers, and writes the answers down.
+// kept: four slices; with the calls and the lines in one struct each clause says `list.entry.lines.now` for `lines.now`.
 pub fn run<B: Board>(
     b: &mut B,
     calls: &[Call<B::Cell>],
@@ -71,10 +60,11 @@ pub fn run<B: Board>(
     ensures effect { record { matrix = B.matrix b.new; memory = memory.new } ≡ after (B.limits b.old) lines.now (take (length answers.old) calls.now) (record { matrix = B.matrix b.old; memory = memory.old }) }
     ensures limits { B.limits b.new ≡ B.limits b.old }
 {
-    let n = calls.len().min(answers.len());
-    for k in 0..n {
-        let a = one(b, calls[k], lines, memory);
-        write(answers, k, a);
+    // kept: an index beside the answers, since after a `zip` with `iter_mut` nothing is known of what was written.
+    for (k, answer) in answers.iter_mut().enumerate() {
+        if let Some(call) = calls.get(k) {
+            *answer = one(b, *call, lines, memory);
+        }
     }
 }
 

@@ -1,48 +1,42 @@
-use Rattle.std.proofs.Common.{◌≡◌, ◌-◌, ◌<◌, ◌≤◌, ◌++◌, length, get_or, sym, ap, ◌∙◌, arith, length-set}
-use Rattle.std.proofs.lemmas.List.{take_all, drop_all}
+use Rattle.std.proofs.Common.{◌≡◌, ◌+◌, ◌-◌, ◌<◌, ◌++◌, length, get_or, take, drop, reverse, sym, ap, ◌∙◌, arith}
+use Rattle.std.proofs.lemmas.Option.{same_Some}
+use Rattle.std.proofs.lemmas.List.{append-nil, take_all}
 use Rattle.keeps.specs.Kept.{holding}
-use Rattle.keeps.proofs.Pulls.{pulled_more, filled_more, some_some, never_none}
+use Rattle.keeps.proofs.Pulls.{pulled_more, filled_more}
 use Rattle.keeps.proofs.lines.pull_line.Goals as goal
+use Rattle.keeps.proofs.lines.pull_line.Goals.{in-Some, in_default}
 
-pub loop-n-init : goal.loop-n-init
-loop-n-init g c =
-    let n = length c.args.memory.now in
-    let k = g.K.Keep.store c.args.keep.now in (
-      omega arith,
-      λ o xs ys is same.
-          let le : length ys ≤ n = omega arith in
-          let le₂ : n ≤ n = omega arith in
-          (o, ap (λ z. holding z k) (is ∙ ap (λ z. xs ++ z) (sym (take_all n ys le))), drop_all n c.args.memory.now le₂ ∙ sym (drop_all n ys le)),
-    )
+pub loop-place-preserved : goal.loop-place-preserved
+loop-place-preserved g c = λ o xs ys is same.
+    let k = g.K.Keep.store c.args.keep.now in
+    let k₁ = g.K.Keep.store c.loop-place.keep in
+    let memory = c.loop-place.memory in
+    let i = c.loop-place.place-index in
+    let m = length ys - (i + 1) in
+    let l : i < length memory = omega (arith, c.loop-place-test.true, c.loop-place.auto.memory) in
+    let same₂ : length ys ≡ length memory = same ∙ c.match-take.auto.memory in
+    let l₂ : m < length ys = omega arith in
+    let more : length ys - i ≡ m + 1 = omega arith in
+    let p = c.loop-place.invariant o xs ys is same₂ in
+    let before = p.1 ∙ ap (λ n. holding (xs ++ take n ys) k) more in
+    let t = c.take.ensures in
+    elim c.match-take.branch [
+      | in-Some w ↦
+          let x = w.in-Some.x in
+          let e = pulled_more k k₁ (g.K.Keep.store c.take.new.self) xs ys m c.take.result x l₂ before (t.effect p.0) (t.answer p.0) in
+          let f = filled_more memory ys i m x l l₂ (p.2 ∙ ap (λ n. drop n ys) more) (same_Some x (get_or ys m x) (sym w.in-Some.is ∙ e.1)) in
+          (t.ordered p.0, e.0, ap (λ z. reverse (take (i + 1) z)) w.memory-is ∙ f)
+      | in_default w ↦ absurd (w.in_default.not-Some _ (pulled_more k k₁ _ xs ys m c.take.result c.place-item.result l₂ before (t.effect p.0) (t.answer p.0)).1)
+    ]
 
-pub loop-n-preserved-in-Some : goal.loop-n-preserved-in-Some
-loop-n-preserved-in-Some g c =
-    let n = c.loop-n.n in
-    let x = c.in-Some.x in
-    let memory = c.loop-n.memory in
-    let long = length-set memory (n - 1) x in
-    let p : 0 < n = omega arith in
-    let q : n ≤ length memory = c.loop-n.invariant.0 in (
-      omega (arith, long, q),
-      λ o xs ys is same.
-          let same₂ : length ys ≡ length memory = same ∙ long in
-          let le : n ≤ length ys = omega arith in
-          let i = c.loop-n.invariant.1 o xs ys is same₂ in
-          let t = c.take.ensures in
-          let e = pulled_more (g.K.Keep.store c.args.keep.now) (g.K.Keep.store c.loop-n.keep) _ xs ys n c.take.result x p le i.1 (t.effect i.0) (t.answer i.0) in
-          (t.ordered i.0, e.0, filled_more memory ys n x x p q same₂ i.2 (some_some x (get_or ys (n - 1) x) (sym c.in-Some.is ∙ e.1))),
-    )
-
-pub loop-n-preserved : goal.loop-n-preserved
-loop-n-preserved g c =
-    let n = c.loop-n.n in
-    let memory = c.loop-n.memory in
-    let p : 0 < n = omega arith in
-    let q : n ≤ length memory = c.loop-n.invariant.0 in (
-      omega (arith, q),
-      λ o xs ys is same.
-          let le : n ≤ length ys = omega arith in
-          let i = c.loop-n.invariant.1 o xs ys is same in
-          let t = c.take.ensures in
-          absurd (never_none (g.K.Keep.store c.args.keep.now) (g.K.Keep.store c.loop-n.keep) xs ys n c.take.result p le i.1 (t.answer i.0) c.in-None.is),
-    )
+pub returns : goal.returns
+returns g c = record {
+  effect = λ o xs ys is same.
+      let k = g.K.Keep.store c.args.keep.now in
+      let memory = c.loop-place.memory in
+      let i = c.loop-place.place-index in
+      let p = c.loop-place.invariant o xs ys is (same ∙ sym c.loop-place.auto.memory) in
+      let none : length ys - i ≡ 0 = omega (arith, c.loop-place-test.false) in
+      let all = take_all i memory (omega (arith, c.loop-place-test.false, c.loop-place.auto.memory)) in
+      (p.0, p.1 ∙ ap (λ n. holding (xs ++ take n ys) k) none ∙ ap (λ z. holding z k) (append-nil xs), c.reverse.ensures.after ∙ ap reverse (sym all) ∙ p.2 ∙ ap (λ n. drop n ys) none);
+}

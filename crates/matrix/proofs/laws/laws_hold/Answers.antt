@@ -1,8 +1,9 @@
-use Rattle.std.proofs.Common.{refl}
-use Rattle.matrix.proofs.Undo.{undone, mirrors}
-use Rattle.matrix.proofs.Held.{turns}
+use Rattle.matrix.proofs.Undo.{undone}
 use Rattle.matrix.proofs.Flats.{shown}
 use Rattle.matrix.proofs.laws.laws_hold.Goals as goal
 
-pub returns : goal.returns
-returns g c = record { answer = refl; turns = turns _; undone = undone _; mirrors = mirrors _; shown = shown _ }
+pub returns-clause-undone : goal.returns-clause-undone
+returns-clause-undone g c = undone _
+
+pub returns-clause-shown : goal.returns-clause-shown
+returns-clause-shown g c = shown _

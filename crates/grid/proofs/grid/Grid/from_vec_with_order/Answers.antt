@@ -11,8 +11,6 @@ returns g c =
     let shape = c.vec_shape-shape.ensures.answer in
     record {
       effect = ap (λ f. held f ys) shape ∙ made_vec c.args.order c.args.n c.args.cols xs ys e;
-      limits = limits_taken xs ys e;
-      order = vec_order c.args.order _ c.args.n c.args.cols c.vec_shape-shape.result shape;
+      over = record { limits = limits_taken xs ys e; order = vec_order c.args.order _ c.args.n c.args.cols c.vec_shape-shape.result shape; memory = c.first_cells.ensures.memory };
       cells = e;
-      memory = c.first_cells.ensures.memory;
     }

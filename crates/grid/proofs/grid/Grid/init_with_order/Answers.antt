@@ -13,7 +13,5 @@ returns g c =
     let shape = c.new_shape-shape.ensures.answer in
     record {
       effect = c.fill.ensures.effect ∙ ap (λ f. filled (held f first).rows (held f first).cols c.args.x) shape ∙ made_new c.args.order c.args.rows c.args.cols c.args.x xs first e;
-      limits = ap grid_limits (omega arith) ∙ limits_taken xs first e;
-      order = new_order c.args.order (length xs) c.args.rows c.args.cols c.new_shape-shape.result shape;
-      memory = c.first_cells-first.ensures.memory;
+      over = record { limits = ap grid_limits (omega arith) ∙ limits_taken xs first e; order = new_order c.args.order (length xs) c.args.rows c.args.cols c.new_shape-shape.result shape; memory = c.first_cells-first.ensures.memory };
     }

@@ -1,14 +1,8 @@
 use Rattle.std.proofs.Common.{◌*◌, ap, ◌∙◌}
-use Rattle.grid.proofs.Makes.{vec_count, shown_again}
+use Rattle.grid.proofs.Makes.{vec_count}
 use Rattle.grid.proofs.grid.Grid.round_trip.Goals as goal
 
-pub returns : goal.returns
-returns g c =
-    let made = c.from_vec_with_order.ensures in
-    let out = c.into_vec.ensures in
-    record {
-      count = out.count ∙ ap (λ m. m.rows * m.cols) made.effect ∙ vec_count c.args.order c.args.n c.args.cols c.args.cells.now;
-      flat = shown_again _ _ _ _ _ made.order made.effect out.flat;
-      cells = out.cells ∙ made.cells;
-      memory = λ h. out.memory ∙ made.memory h;
-    }
+pub returns-clause-count : goal.returns-clause-count
+returns-clause-count g c =
+    let a = c.args in
+    c.into_vec.ensures.count ∙ ap (λ m. m.rows * m.cols) c.from_vec_with_order.ensures.effect ∙ vec_count a.order a.n a.cols a.cells.now

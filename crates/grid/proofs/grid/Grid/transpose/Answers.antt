@@ -1,16 +1,9 @@
-use Rattle.std.proofs.Common.{refl, ap, ◌∙◌}
-use Rattle.matrix.specs.Shapes.{Form, form, held}
+use Rattle.std.proofs.Common.{ap, ◌∙◌}
+use Rattle.matrix.specs.Shapes.{form, held}
 use Rattle.matrix.proofs.Held.{held_turned}
 use Rattle.grid.proofs.grid.Grid.transpose.Goals as goal
 
-pub returns : goal.returns
-returns g c =
+pub returns-clause-effect : goal.returns-clause-effect
+returns-clause-effect g c =
     let was = c.args.self.now in
-    let et = c.turned-self.ensures.answer in
-    record {
-      effect = ap (λ f. held f was.cells.now) et ∙ held_turned (form was.shape) was.cells.now;
-      limits = refl;
-      order = ap (λ (f : Form). f.order) et;
-      memory = refl;
-      still = refl;
-    }
+    ap (λ f. held f was.cells.now) c.turned-self.ensures.answer ∙ held_turned (form was.shape) was.cells.now

@@ -1,5 +1,5 @@
-use Rattle.std.proofs.Common.{sym, refl, arith, take_all}
+use Rattle.std.proofs.Common.{sym, arith, take_all}
 use Rattle.grid.proofs.grid.making.first_cells.Goals as goal
 
-pub returns-else-cells-gt-CELLS : goal.returns-else-cells-gt-CELLS
-returns-else-cells-gt-CELLS g c = record { cells = sym (take_all 65536 c.args.cells.now (omega arith)); memory = λ _. refl }
+pub returns-else-cells-gt-CELLS-clause-cells : goal.returns-else-cells-gt-CELLS-clause-cells
+returns-else-cells-gt-CELLS-clause-cells g c = sym (take_all 65536 c.args.cells.now (omega arith))

@@ -1,26 +1,19 @@
-use Rattle.std.proofs.Common.{get_or, sym, ap, arith}
-use Rattle.matrix.proofs.Products.{line_ends}
-use Rattle.seating.specs.Seats.{spot}
+use Rattle.std.proofs.Common.{arith}
+use Rattle.matrix.specs.declared.axis.Axis.TheVariants.{Row, Col}
+use Rattle.seating.specs.Benches.{seat}
+use Rattle.seating.proofs.Owes.{spot_within}
 use Rattle.seating.proofs.seating.Seating.spot.Goals as goal
 
-pub returns-then-self : goal.returns-then-self
-returns-then-self c =
+pub returns-in-Row-clause-inside : goal.returns-in-Row-clause-inside
+returns-in-Row-clause-inside c =
     let s = c.args.self.now in
-    let a = s.down.below c.args.r (omega arith) in
-    let b = s.across.below c.args.c (omega (arith, s.square)) in
-    let e = s.square in
-    record {
-      answer = sym (ap (λ z. spot z s.down.side (get_or s.down.table c.args.r 0) (get_or s.across.table c.args.c 0)) c.if-self.true);
-      inside = omega (arith, line_ends (get_or s.across.table c.args.c 0) s.down.side s.down.side (omega arith));
-    }
+    let q = s.square in
+    let b = s.across.below c.args.c (omega arith) in
+    spot_within Row s.down.side (seat s.down c.args.r) (seat s.across c.args.c) (s.down.below c.args.r (omega arith)) (omega arith)
 
-pub returns-else-self : goal.returns-else-self
-returns-else-self c =
+pub returns-in-Col-clause-inside : goal.returns-in-Col-clause-inside
+returns-in-Col-clause-inside c =
     let s = c.args.self.now in
-    let a = s.down.below c.args.r (omega arith) in
-    let b = s.across.below c.args.c (omega (arith, s.square)) in
-    let e = s.square in
-    record {
-      answer = sym (ap (λ z. spot z s.down.side (get_or s.down.table c.args.r 0) (get_or s.across.table c.args.c 0)) c.if-self.false);
-      inside = omega (arith, line_ends (get_or s.down.table c.args.r 0) s.down.side s.down.side (omega arith));
-    }
+    let q = s.square in
+    let b = s.across.below c.args.c (omega arith) in
+    spot_within Col s.down.side (seat s.down c.args.r) (seat s.across c.args.c) (s.down.below c.args.r (omega arith)) (omega arith)

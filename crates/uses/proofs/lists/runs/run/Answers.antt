@@ -1,10 +1,10 @@
-use Rattle.std.proofs.Common.{◌≡◌, min, length, refl, ap, ◌∙◌, arith, rules}
-use Rattle.std.proofs.lemmas.Option.{slice_get_read}
-use Rattle.matrix.specs.Matrix.{over}
-use Rattle.uses.specs.Lists.{State, after, replies}
-use Rattle.uses.proofs.Stretches.{take_clipped}
-use Rattle.uses.proofs.Runs.{ran_none, ran_more}
+use Rattle.std.proofs.Common.{◌≡◌, length, Some, sym, ap, ◌∙◌, subst, arith, rules}
+use Rattle.std.proofs.lemmas.List.{set-get_or}
+use Rattle.std.proofs.lemmas.Option.{slice_get-get_or}
+use Rattle.uses.specs.Lists.{State}
+use Rattle.uses.proofs.Runs.{Ran, ran_none, ran_more, ran_past}
 use Rattle.uses.proofs.lists.runs.run.Goals as goal
+use Rattle.uses.proofs.lists.runs.run.Goals.{in-Some, in_default}
 
 pub loop-k-init : goal.loop-k-init
 loop-k-init g c = ran_none _ _ _ _ _
@@ -13,23 +13,26 @@ pub loop-k-preserved : goal.loop-k-preserved
 loop-k-preserved g c =
     let a = c.args in
     let l = c.loop-k in
-    let made = c.one-a.ensures in
     let start : State g.row.B-Cell.Denot = record { matrix = g.B.Board.matrix a.b.now; memory = a.memory.now } in
     let was : State g.row.B-Cell.Denot = record { matrix = g.B.Board.matrix l.b; memory = l.memory } in
-    let is : State g.row.B-Cell.Denot = record { matrix = g.B.Board.matrix c.one-a.new.b; memory = c.one-a.new.memory } in
-    let p = ran_more (g.B.Board.limits a.b.now) (g.B.Board.limits l.b) (g.B.Board.limits c.one-a.new.b) a.lines.now a.calls.now start was is a.answers.now l.answers l.k c.index-calls-k.result c.one-a.result
-    (slice_get_read a.calls.now _ l.k _ refl (omega arith) c.index-calls-k.is) (omega arith) (omega arith) made.answer made.effect made.limits l.invariant in
-    record { limits = p.limits; state = p.state; said = c.write.ensures.effect ∙ p.said }
+    elim c.match-get.branch [
+      | in-Some w ↦
+          let made = w.one.ensures in
+          let call = w.in-Some.call.now in
+          let found = w.in-Some.ensures.lookup in
+          let inside = found.3.0 in
+          let is : State g.row.B-Cell.Denot = record { matrix = g.B.Board.matrix w.one.new.b; memory = w.one.new.memory } in
+          let p = ran_more (g.B.Board.limits a.b.now) a.lines.now a.calls.now start a.answers.now l.k (g.B.Board.limits l.b) (g.B.Board.limits w.one.new.b) was is l.answers call w.one.result
+          (slice_get-get_or a.calls.now l.k call inside ∙ ap Some (sym found.1)) inside (omega arith) made.answer made.effect made.limits l.invariant in
+          record { limits = ap g.B.Board.limits w.b-is ∙ p.limits; state = (λ i. record { matrix = g.B.Board.matrix (w.b-is i); memory = w.memory-is i }) ∙ p.state; said = w.answers-is ∙ p.said }
+      | in_default w ↦
+          let p = ran_past (g.B.Board.limits a.b.now) a.lines.now a.calls.now start a.answers.now l.k (g.B.Board.limits l.b) was l.answers w.in_default.ensures.lookup.3 l.invariant in
+          record { limits = ap g.B.Board.limits w.b-is ∙ p.limits; state = (λ i. record { matrix = g.B.Board.matrix (w.b-is i); memory = w.memory-is i }) ∙ p.state; said = w.answers-is ∙ set-get_or l.answers l.k _ ∙ p.said }
+    ]
 
 pub returns : goal.returns
 returns g c =
-    let a = c.args in
     let l = c.loop-k in
-    let all : l.k ≡ min (length a.answers.now) (length a.calls.now) = search rules in
-    let e = take_clipped a.calls.now (length a.answers.now) l.k all in
-    let start : State g.row.B-Cell.Denot = record { matrix = g.B.Board.matrix a.b.now; memory = a.memory.now } in
-    record {
-      answer = l.invariant.said ∙ ap (λ cs. over (replies (g.B.Board.limits a.b.now) a.lines.now cs start) a.answers.now) e;
-      effect = l.invariant.state ∙ ap (λ cs. after (g.B.Board.limits a.b.now) a.lines.now cs start) e;
-      limits = l.invariant.limits;
-    }
+    let all : l.k ≡ length c.args.answers.now = search rules in
+    let p = subst (Ran (g.B.Board.limits c.args.b.now) (g.B.Board.limits l.b) c.args.lines.now c.args.calls.now (record { matrix = g.B.Board.matrix c.args.b.now; memory = c.args.memory.now }) (record { matrix = g.B.Board.matrix l.b; memory = l.memory }) c.args.answers.now l.answers) all l.invariant in
+    record { answer = p.said; effect = p.state; limits = p.limits }

@@ -1,0 +1,6 @@
+use Rattle.std.proofs.Common.{◌+◌, ◌*◌}
+use Rattle.matrix.proofs.Gather.{Gathered}
+use Rattle.flat.proofs.lines.copy_line.Given as goal
+
+abbrev pub invariant-loop-c : goal.invariant-loop-c
+invariant-loop-c g l = Gathered l.s l.initial.memory l.memory (λ k. k * l.rows + l.i) l.c

@@ -1,0 +1,32 @@
+-- The word that names each call.
+use Rattle.std.specs.Prelude.{◌≡◌, ℕ, List, Ok, Err, codes, Result}
+use Rattle.listing.specs.declared.name.Name.{Name}
+use Rattle.listing.specs.declared.name.Name.TheVariants.{New, Start, Put, InsertRow, InsertCol, RemoveRow, RemoveCol, Transpose, FlipRows, FlipCols, StepBack, Publish, Reopen, Size, Get, Owed, Kept, Settled, Show, Tally}
+use Rattle.listing.specs.declared.name.NoName.{NoName}
+
+abbrev pub name_word : Name → List ℕ
+name_word New = codes "new"
+name_word Start = codes "start"
+name_word Put = codes "put"
+name_word InsertRow = codes "insert-row"
+name_word InsertCol = codes "insert-col"
+name_word RemoveRow = codes "remove-row"
+name_word RemoveCol = codes "remove-col"
+name_word Transpose = codes "transpose"
+name_word FlipRows = codes "flip-rows"
+name_word FlipCols = codes "flip-cols"
+name_word StepBack = codes "step-back"
+name_word Publish = codes "publish"
+name_word Reopen = codes "reopen"
+name_word Size = codes "size"
+name_word Get = codes "get"
+name_word Owed = codes "owed"
+name_word Kept = codes "kept"
+name_word Settled = codes "settled"
+name_word Show = codes "show"
+name_word Tally = codes "tally"
+
+-- A name is read from its own word, and from no other.
+abbrev pub Named : List ℕ → Result Name NoName → Type 0
+Named w (Ok name) = w ≡ name_word name
+Named w (Err e) = (name : Name) → w ≡ name_word name → ⊥

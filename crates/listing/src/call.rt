@@ -1,0 +1,282 @@
+// What a line of a scorer's list asks for.
+ghost use Rattle.std.specs.Prelude.{◌≡◌, [], Ok, None, IfSome, IsNone};
+ghost use Rattle.listing.specs.Calls.{Reads, SaysAlone, SaysPlace, SaysPut, SaysInsertion, SaysRemoval, SaysCall, SaysRoom, SaysSheet, SaysKeep, SaysGround, NoGround, Turned, Other, Nothing, KindNamed, texts};
+
+use crate::digits::number;
+use crate::name::Name;
+use crate::wrong::Wrong;
+use matrix::axis::Axis;
+use matrix::limits::SIDE;
+use matrix::shape::Order;
+use std::str::FromStr;
+
+// The two kinds of sheet.
+#[derive(Clone, Copy, PartialEq, Eq)]
+pub enum SheetKind {
+    Passages,
+    Penalties,
+}
+
+// A word that is no kind of sheet.
+#[derive(Clone, Copy, PartialEq, Eq)]
+pub struct NoKind;
+
+impl FromStr for SheetKind {
+    type Err = NoKind;
+
+    ghost from_str_gives = { KindNamed };
+
+    fn from_str(word: &str) -> Result<SheetKind, NoKind> {
+        match word {
+            "passages" => Ok(SheetKind::Passages),
+            "penalties" => Ok(SheetKind::Penalties),
+            _ => Err(NoKind),
+        }
+    }
+}
+
+// What lies under a sheet, before it is turned.
+#[derive(Clone, Copy, PartialEq, Eq)]
+pub enum Ground {
+    // An empty grid over that many cells of memory.
+    Grid(Order, usize),
+    // A board of that many seats to a side.
+    Seats(usize),
+}
+
+// A ground, turned that many times.
+#[derive(Clone, Copy, PartialEq, Eq)]
+pub struct Layout {
+    pub turns: usize,
+    pub ground: Ground,
+}
+
+// The memory in which a sheet keeps what it needs to step back.
+#[derive(Clone, Copy, PartialEq, Eq)]
+pub enum Keeping {
+    Stack(usize),
+    Joined(usize, usize),
+}
+
+// A sheet that is to be made: its kind, the board under it, and its keep.
+#[derive(Clone, Copy, PartialEq, Eq)]
+pub struct Fresh {
+    pub kind: SheetKind,
+    pub layout: Layout,
+    pub keeping: Keeping,
+}
+
+// One call. Cells are still words of the line, since the sheet's kind says what they mean.
+#[derive(Clone, Copy)]
+pub enum Call<'a> {
+    New(Fresh),
+    Start(&'a [&'a str]),
+    Put(usize, usize, &'a str),
+    Insert(Axis, usize, &'a [&'a str]),
+    // The last is how many cells of memory there are for the line.
+    Remove(Axis, usize, usize),
+    Transpose,
+    Flip(Axis),
+    StepBack(usize),
+    Publish,
+    Reopen,
+    Size,
+    Get(usize, usize),
+    Owed,
+    Kept,
+    Settled,
+    Show,
+    Tally,
+}
+
+impl<'a> Call<'a> {
+    // The call that the words of a line are, and none where there is no word.
+    pub fn read(words: &'a [&'a str]) -> Result<Option<Call<'a>>, Wrong>
+        ensures read { Reads (texts words.now) result }
+        ensures empty { texts words.now ≡ [] → result ≡ Ok None }
+    {
+        let [word, rest @ ..] = words else {
+            return Ok(None);
+        };
+        let Ok(name) = word.parse::<Name>() else {
+            return Err(Wrong::NoName);
+        };
+        match named(name, rest) {
+            Some(call) => Ok(Some(call)),
+            None => Err(Wrong::Usage(name)),
+        }
+    }
+}
+
+// The call of a name and the words after it.
+fn named<'a>(name: Name, words: &'a [&'a str]) -> Option<Call<'a>>
+    ensures call { IfSome result (SaysCall name (texts words.now)) }
+    ensures none { IsNone result → Nothing (SaysCall name (texts words.now)) }
+{
+    match name {
+        Name::New => Some(Call::New(sheet(words)?)),
+        Name::Start => Some(Call::Start(words)),
+        Name::Put => {
+            let (r, c, cell) = put(words)?;
+            Some(Call::Put(r, c, cell))
+        }
+        Name::InsertRow => {
+            let (i, cells) = insertion(words)?;
+            Some(Call::Insert(Axis::Row, i, cells))
+        }
+        Name::InsertCol => {
+            let (i, cells) = insertion(words)?;
+            Some(Call::Insert(Axis::Col, i, cells))
+        }
+        Name::RemoveRow => {
+            let (i, room) = removal(words)?;
+            Some(Call::Remove(Axis::Row, i, room))
+        }
+        Name::RemoveCol => {
+            let (i, room) = removal(words)?;
+            Some(Call::Remove(Axis::Col, i, room))
+        }
+        Name::Transpose => alone(Call::Transpose, words),
+        Name::FlipRows => alone(Call::Flip(Axis::Row), words),
+        Name::FlipCols => alone(Call::Flip(Axis::Col), words),
+        Name::StepBack => Some(Call::StepBack(room_of(words)?)),
+        Name::Publish => alone(Call::Publish, words),
+        Name::Reopen => alone(Call::Reopen, words),
+        Name::Size => alone(Call::Size, words),
+        Name::Get => {
+            let (r, c) = place(words)?;
+            Some(Call::Get(r, c))
+        }
+        Name::Owed => alone(Call::Owed, words),
+        Name::Kept => alone(Call::Kept, words),
+        Name::Settled => alone(Call::Settled, words),
+        Name::Show => alone(Call::Show, words),
+        Name::Tally => alone(Call::Tally, words),
+    }
+}
+
+// A call that is its name alone.
+fn alone<'a>(call: Call<'a>, words: &[&str]) -> Option<Call<'a>>
+    ensures alone { IfSome result (SaysAlone (texts words.now) call.entry) }
+    ensures none { IsNone result → Nothing (SaysAlone (texts words.now) call.entry) }
+{
+    match words {
+        [] => Some(call),
+        _ => None,
+    }
+}
+
+fn place(words: &[&str]) -> Option<(usize, usize)>
+    ensures place { IfSome result (SaysPlace (texts words.now)) }
+    ensures none { IsNone result → Nothing (SaysPlace (texts words.now)) }
+{
+    match words {
+        [r, c] => Some((number(r)?, number(c)?)),
+        _ => None,
+    }
+}
+
+fn put<'a>(words: &'a [&'a str]) -> Option<(usize, usize, &'a str)>
+    ensures put { IfSome result (SaysPut (texts words.now)) }
+    ensures none { IsNone result → Nothing (SaysPut (texts words.now)) }
+{
+    match words {
+        [r, c, cell] => Some((number(r)?, number(c)?, cell)),
+        _ => None,
+    }
+}
+
+fn insertion<'a>(words: &'a [&'a str]) -> Option<(usize, &'a [&'a str])>
+    ensures insertion { IfSome result (SaysInsertion (texts words.now)) }
+    ensures none { IsNone result → Nothing (SaysInsertion (texts words.now)) }
+{
+    match words {
+        [i, cells @ ..] => Some((number(i)?, cells)),
+        _ => None,
+    }
+}
+
+fn removal(words: &[&str]) -> Option<(usize, usize)>
+    ensures removal { IfSome result (SaysRemoval (texts words.now)) }
+    ensures none { IsNone result → Nothing (SaysRemoval (texts words.now)) }
+{
+    match words {
+        [i, room @ ..] => Some((number(i)?, room_of(room)?)),
+        _ => None,
+    }
+}
+
+// How many cells of memory there are for a line: as many as the longest has, where its call does not say.
+fn room_of(words: &[&str]) -> Option<usize>
+    ensures room { IfSome result (SaysRoom (texts words.now)) }
+    ensures none { IsNone result → Nothing (SaysRoom (texts words.now)) }
+{
+    match words {
+        [] => Some(SIDE),
+        [room] => number(room),
+        _ => None,
+    }
+}
+
+fn sheet(words: &[&str]) -> Option<Fresh>
+    ensures sheet { IfSome result (SaysSheet (texts words.now)) }
+    ensures none { IsNone result → Nothing (SaysSheet (texts words.now)) }
+{
+    let [kind, words @ ..] = words else {
+        return None;
+    };
+    let Ok(kind) = kind.parse::<SheetKind>() else {
+        return None;
+    };
+    let (turns, words) = read_turns(words);
+    let (ground, words) = read_ground(words)?;
+    let keeping = read_keep(words)?;
+    let layout = Layout { turns, ground };
+    Some(Fresh {
+        kind,
+        layout,
+        keeping,
+    })
+}
+
+// How many words `turned` come first, and the words after them.
+fn read_turns<'a>(words: &'a [&'a str]) -> (usize, &'a [&'a str])
+    ensures turned { Turned result.0 (texts words.now) (texts result.1.now) }
+    ensures all { Other (texts result.1.now) }
+{
+    let mut turns = 0;
+    let mut rest = words;
+    while let ["turned", more @ ..] = rest {
+        turns += 1;
+        rest = more;
+    }
+    (turns, rest)
+}
+
+// The ground that the first words name, and the words after them.
+fn read_ground<'a>(words: &'a [&'a str]) -> Option<(Ground, &'a [&'a str])>
+    ensures ground { IfSome result (λ p. SaysGround (texts words.now) p.0 (texts p.1.now)) }
+    ensures none { IsNone result → NoGround (texts words.now) }
+{
+    match words {
+        ["grid", "row-major", cells, rest @ ..] => {
+            Some((Ground::Grid(Order::RowMajor, number(cells)?), rest))
+        }
+        ["grid", "column-major", cells, rest @ ..] => {
+            Some((Ground::Grid(Order::ColumnMajor, number(cells)?), rest))
+        }
+        ["seats", side, rest @ ..] => Some((Ground::Seats(number(side)?), rest)),
+        _ => None,
+    }
+}
+
+fn read_keep(words: &[&str]) -> Option<Keeping>
+    ensures keep { IfSome result (SaysKeep (texts words.now)) }
+    ensures none { IsNone result → Nothing (SaysKeep (texts words.now)) }
+{
+    match words {
+        ["stack", most] => Some(Keeping::Stack(number(most)?)),
+        ["joined", first, second] => Some(Keeping::Joined(number(first)?, number(second)?)),
+        _ => None,
+    }
+}
