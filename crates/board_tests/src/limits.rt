@@ -43,7 +43,8 @@ fn grids_over_eight_cells(rt: HostRuntime) {
     }
 }
 
-// The same on the board turned: a function of its own, since a proof covers `over` at a type parameter and not at a grid.
+// The same on the board turned.
+// kept: a function of its own, since a proof covers `over` at a type parameter and not at a grid.
 fn turned_over<B: Board<Cell = u8> + Drop>(rt: &impl Abort, lower: B) {
     let mut b = TurnedBoard::over(lower);
     refused_then_taken(rt, &mut b, None, Refusal::Full);

@@ -1,6 +1,7 @@
 // One list of calls on two boards of other kinds, compared answer by answer.
 use boards::board::Board;
 use boards::turned::TurnedBoard;
+use flat::segment::Segment;
 use grid::grid::Grid;
 use matrix::axis::Axis;
 use matrix::shape::Order;
@@ -10,17 +11,17 @@ use uses::lists::runs::run_both;
 use uses::lists::{Answer, Call};
 
 const CALLS: [Call<u8>; 18] = [
-    Call::Insert(Axis::Row, 0, 0, 3),
-    Call::Insert(Axis::Row, 1, 3, 3),
-    Call::Insert(Axis::Row, 3, 0, 3),
-    Call::Insert(Axis::Col, 1, 6, 2),
-    Call::Insert(Axis::Col, 0, 6, 3),
+    Call::Insert(Axis::Row, 0, Segment { start: 0, len: 3 }),
+    Call::Insert(Axis::Row, 1, Segment { start: 3, len: 3 }),
+    Call::Insert(Axis::Row, 3, Segment { start: 0, len: 3 }),
+    Call::Insert(Axis::Col, 1, Segment { start: 6, len: 2 }),
+    Call::Insert(Axis::Col, 0, Segment { start: 6, len: 3 }),
     Call::Put(1, 2, 77),
     Call::Put(9, 0, 1),
     Call::Flip(Axis::Col),
     Call::Transpose,
     Call::Size,
-    Call::Insert(Axis::Col, 2, 4, 4),
+    Call::Insert(Axis::Col, 2, Segment { start: 4, len: 4 }),
     Call::Remove(Axis::Col, 1),
     Call::Flip(Axis::Row),
     Call::Get(0, 0),
@@ -52,7 +53,8 @@ fn alike<A: Board<Cell = u8>, B: Board<Cell = u8>>(rt: &impl Abort, one: &mut A,
     assert_eq!(rt; memory, other_memory);
 }
 
-// The same beside a board turned: a function of its own, since a proof covers `over` at a type parameter and not at a grid.
+// The same beside a board turned.
+// kept: a function of its own, since a proof covers `over` at a type parameter and not at a grid.
 fn beside_turned<A: Board<Cell = u8>, B: Board<Cell = u8> + Drop>(
     rt: &impl Abort,
     board: &mut A,

@@ -29,7 +29,7 @@ spelt Short = codes "SHORT"
 spelt Journal = codes "JOURNAL"
 spelt Keep = codes "KEEP"
 
--- the refusal of a number, and KEEP for every number above
+-- the refusal of a number, and KEEP for every other
 abbrev pub numbered : ℕ → Refusal
 numbered n =
     cond (n == number Memory) Memory
@@ -45,6 +45,7 @@ numbered n =
     Keep)))))))))
 
 -- An answer is made of tests in the order of their numbers: `refused 4 (if 4 holds) (what is answered if not)`.
+-- kept: by the number and not the variant, so that a rule reads as the list of its numbers, in which people know it.
 abbrev pub refused : {A : Type 0} → ℕ → Bool → Result A Refusal → Result A Refusal
 refused n b rest = cond b (Err (numbered n)) rest
 
@@ -69,10 +70,3 @@ verdict (Err e) = Err e
 abbrev pub stands : {X E : Type 0} → Result X E → X → X
 stands (Ok new) old = new
 stands (Err e) old = old
-
--- t is r with what was made turned as `Turn` says
-abbrev pub Back : {X E : Type 0} → (X → X → Type 0) → Result X E → Result X E → Type 0
-Back Turn (Ok new) (Ok turn) = Turn new turn
-Back Turn (Ok new) (Err e) = ⊥
-Back Turn (Err e) (Ok turn) = ⊥
-Back Turn (Err e) (Err d) = d ≡ e

@@ -38,6 +38,8 @@ pub enum Passage {
 pub struct Penalty(pub i32);
 
 impl Mark {
+    // Yes exactly when both are one mark.
+    // kept: the derived `==` says only that the parts are equal; that both are one value is promised here too.
     pub fn same(self, other: Mark) -> bool
         ensures only { T result → self ≡ other }
         ensures all { self ≡ other → T result }
@@ -65,6 +67,7 @@ impl Kind for Penalty {
         Penalty(0)
     }
 
+    // kept: a penalty is its one count, and the derived `==` of the two would say no more in fewer words.
     fn same(&self, other: &Penalty) -> bool {
         self.0 == other.0
     }

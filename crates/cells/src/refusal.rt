@@ -30,7 +30,7 @@ impl Refusal {
         self as u32
     }
 
-    // kept: the name alone, as a text that lasts; printing goes by it.
+    // kept: no heap: who has no formatter gets the name as a text; printing goes by it.
     pub fn name(self) -> &'static str
         ensures answer { result.now ≡ spelt self }
     {

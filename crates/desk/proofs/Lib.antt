@@ -1,1 +1,3 @@
 mod Listed
+mod Gains
+pub mod Sounds

@@ -6,5 +6,6 @@ pub mod lines;
 pub mod output;
 pub mod program;
 pub mod sheets;
+pub mod spelt;
 #[cfg(test)]
 mod tests;

@@ -1,30 +1,36 @@
 // What a program prints, one line for each call.
-ghost use Rattle.std.specs.Prelude.{◌≡◌, ◌↔◌, Ok, Err, IsOk};
+ghost use Rattle.std.specs.Prelude.{◌≡◌, ◌↔◌, Err, IsOk};
+ghost use Rattle.desk.specs.Outcomes.{Clean};
 
 use anyhow::anyhow;
 use listing::answer::Answer;
 use listing::written::Written;
 use listing::wrong::Wrong;
+use std::alloc::Global;
 
-// Standard output, and the last error that has gone there.
+// Standard output, the last error that has gone there, and the memory for what is printed.
 #[derive(Clone, Copy)]
 pub struct Output<'a> {
+    pub heap: Global,
     rt: &'a HostRuntime,
     outcome: Result<(), Wrong>,
 }
 
 impl<'a> Output<'a> {
     pub fn new(rt: &'a HostRuntime) -> Output<'a>
-        ensures outcome { result.outcome ≡ Ok tt }
+        ensures outcome { Clean result }
     {
         Output {
+            heap: rt.alloc(),
             rt,
             outcome: Ok(()),
         }
     }
 
-    // No answer changes the outcome.
-    pub fn answer<T: Written>(&self, answer: Answer<'_, T>) -> anyhow::Result<()> {
+    // An answer that is no error.
+    pub fn answer<T: Written>(&mut self, answer: Answer<'_, T>) -> anyhow::Result<()>
+        ensures outcome { self.new.outcome ≡ self.old.outcome }
+    {
         println!(self.rt; "{answer}")?;
         Ok(())
     }
@@ -40,7 +46,7 @@ impl<'a> Output<'a> {
 
     // Ends the answers: an error among them is the program's.
     pub fn finish(self) -> anyhow::Result<()>
-        ensures outcome { IsOk result ↔ (self.entry.outcome ≡ Ok tt) }
+        ensures outcome { IsOk result ↔ Clean self.entry }
     {
         match self.outcome {
             Ok(()) => Ok(()),

@@ -7,6 +7,7 @@ use std::io::Read;
 use std::{env, fs};
 
 // Answers the list that the program of that name is given, or prints its help.
+// It has no clause: what it is given and what it prints are outside contracts, and it only hands lines on.
 pub fn run<S: Sheets>(rt: &HostRuntime, name: &str, help: &[&str]) -> anyhow::Result<()> {
     let mut words = env::args(rt)?.skip(1);
     let file = words.next();
@@ -22,7 +23,7 @@ pub fn run<S: Sheets>(rt: &HostRuntime, name: &str, help: &[&str]) -> anyhow::Re
     let text = list(rt, heap, file)?;
     let words = lines::split(heap, text.as_str())?;
     let lines = lines::read(heap, words.as_slice())?;
-    sheets::answer::<S>(rt, heap, lines.as_slice())
+    sheets::answer::<S>(rt, lines.as_slice())
 }
 
 fn print(rt: &HostRuntime, help: &[&str]) -> anyhow::Result<()> {

@@ -1,5 +1,9 @@
-// A list is split and read where there is memory for it.
+// A list is split and read, and its cells are, where there is memory for it.
 use crate::lines;
+use crate::spelt::read_cells;
+use cells::kinds::Penalty;
+use listing::call::SheetKind;
+use listing::wrong::{Failure, Wrong};
 
 #[test]
 fn lines_and_their_words(rt: HostRuntime) {
@@ -19,4 +23,17 @@ fn lines_and_their_words(rt: HostRuntime) {
         (size.call.is_ok(), put.call.is_ok(), usage.call.is_ok()),
         (true, true, false)
     );
+}
+
+#[test]
+fn cells_of_words(rt: HostRuntime) {
+    let mut cells = Vec::new(rt.alloc());
+    assert!(rt; read_cells(&mut cells, SheetKind::Penalties, &["0", "-5"]).is_ok());
+    assert!(rt; read_cells(&mut cells, SheetKind::Penalties, &[]).is_ok());
+    let wrong = read_cells(&mut cells, SheetKind::Penalties, &["7", "DNS", "8"]);
+    let Err(Failure::Wrong(wrong)) = wrong else {
+        panic!(rt; "DNS spells no penalty");
+    };
+    assert!(rt; wrong == Wrong::NoCell(SheetKind::Penalties, 2));
+    assert!(rt; cells.as_slice() == [Penalty(0), Penalty(-5), Penalty(7)].as_slice());
 }

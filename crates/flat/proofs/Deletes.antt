@@ -1,12 +1,12 @@
 -- A line taken out, and a line copied.
-use Rattle.std.proofs.Common.{◌≡◌, ℕ, ◌+◌, ◌-◌, ◌*◌, ◌<◌, ◌≤◌, List, length, sym, refl, ap, ◌∙◌, ⊎_elim, arith}
+use Rattle.std.proofs.Common.{◌≡◌, ℕ, ◌+◌, ◌-◌, ◌*◌, ◌<◌, ◌≤◌, List, ◌++◌, length, take, drop, sym, refl, ap, ◌∙◌, ⊎_elim, mul-le-mul_right, arith}
 use Rattle.std.specs.List.{slice_get}
 use Rattle.std.proofs.lemmas.Bool.{cases_lt, cases_eq}
 use Rattle.matrix.specs.Matrix.{skipped, inside, left_across, remove_row, remove_col, row, col, over}
 use Rattle.matrix.specs.Shapes.{rowwise}
-use Rattle.matrix.proofs.Cells.{skipped_below, skipped_above, over_is}
+use Rattle.matrix.proofs.Cells.{skipped_below, skipped_above, skipped_within, over_is}
 use Rattle.matrix.proofs.Gather.{Gathered, gathered_all}
-use Rattle.matrix.proofs.Products.{line_more, line_ends, line_le, line_narrower}
+use Rattle.matrix.proofs.Products.{line_more, line_ends, line_narrower}
 use Rattle.matrix.proofs.Whole.{inside_in, rowwise_is, whole_rowwise, whole_remove_row, whole_remove_col, across_stays}
 use Rattle.flat.specs.Moves.{Copied, Tight}
 
@@ -35,13 +35,7 @@ closed_all {T} xs ys outer n at ha p =
     (λ r c hr hc.
     let ne : n ≡ 1 → ⊥ = omega arith in
     let hr' : r < outer = omega (arith, across_stays n outer ne) in
-    p.moved r c hr' hc ∙ sym (inside_in outer n r (skipped at c) (slice_get xs (r * n + skipped at c)) hr' (skips c hc)))
-  where
-    skips : (c : ℕ) → c < n - 1 → skipped at c < n
-    skips c hc = ⊎_elim
-        (λ (l : c < at). omega (arith, skipped_below at c l))
-        (λ (l : at ≤ c). omega (arith, skipped_above at c l))
-        (cases_lt c at)
+    p.moved r c hr' hc ∙ sym (inside_in outer n r (skipped at c) (slice_get xs (r * n + skipped at c)) hr' (skipped_within at c n hc)))
 
 pub removed_outer : {T : Type 0} (xs ys : List T) (outer n at : ℕ) → at < outer → Copied xs ys xs (at * n + n) (at * n) (outer * n - (at * n + n)) → rowwise (outer - 1) (left_across outer n) ys ≡ remove_row at (rowwise outer n xs)
 removed_outer {T} xs ys outer n at ha slid =
@@ -59,7 +53,7 @@ removed_outer {T} xs ys outer n at ha slid =
         slid.below (r * n + c) (omega arith) ∙ ap (λ j. slice_get xs (j * n + c)) (sym s) ∙ sym (inside_in outer n (skipped at r) c (slice_get xs (skipped at r * n + c)) (omega arith) hc))
         (λ (l : at ≤ r).
         let s : skipped at r ≡ r + 1 = skipped_above at r l in
-        let f : at * n ≤ r * n = line_le at r n l in
+        let f : at * n ≤ r * n = mul-le-mul_right n l in
         let k : (r + 1) * n ≡ r * n + n = line_more r n in
         let e : (r + 1) * n + n ≤ outer * n = line_ends (r + 1) outer n (omega arith) in
         ap (slice_get ys) (omega arith) ∙ slid.moved (r * n + c - at * n) (omega arith) ∙ ap (slice_get xs) (omega arith) ∙ ap (λ j. slice_get xs (j * n + c)) (sym s) ∙ sym (inside_in outer n (skipped at r) c (slice_get xs (skipped at r * n + c)) (omega arith) hc))
@@ -71,6 +65,6 @@ copied_outer xs mem zs outer n at ha hm p =
     (λ k h. ap (slice_get zs) (omega arith) ∙ p.moved k h ∙ sym (inside_in outer n at k (slice_get xs (at * n + k)) ha h))
     (λ k h. p.above k (omega arith))
 
--- cell by cell down an inner line
-pub gathered_inner : {T : Type 0} (xs mem zs : List T) (outer n at : ℕ) → at < n → outer ≤ length mem → Gathered xs mem zs (λ k. k * n + at) outer → zs ≡ over (col at (rowwise outer n xs)) mem
-gathered_inner xs mem zs outer n at ha hm p = gathered_all xs mem zs (λ k. k * n + at) outer (λ r. inside outer n r at (slice_get xs (r * n + at))) hm (λ k h. sym (inside_in outer n k at (slice_get xs (k * n + at)) h ha)) p
+-- the cells at one place of each of `outer` lines of n cells
+pub gathered_inner : {T : Type 0} (xs mem line : List T) (outer n at : ℕ) → at < n → outer ≤ length mem → Gathered xs (take outer mem) line (λ k. k * n + at) outer → line ++ drop outer mem ≡ over (col at (rowwise outer n xs)) mem
+gathered_inner xs mem line outer n at ha hm p = gathered_all xs mem line (λ k. k * n + at) outer (λ r. inside outer n r at (slice_get xs (r * n + at))) hm (λ k h. sym (inside_in outer n k at (slice_get xs (k * n + at)) h ha)) p

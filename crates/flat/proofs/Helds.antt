@@ -3,7 +3,7 @@ use Rattle.std.proofs.Common.{◌≡◌, ◌*◌, List, length, Some, sym, refl,
 use Rattle.std.specs.List.{slice_get}
 use Rattle.matrix.specs.Matrix.{Matrix, inside, filled}
 use Rattle.matrix.specs.Shapes.{Form, place, laid, fitted, held}
-use Rattle.matrix.proofs.Whole.{same_inside, inside_below, inside_right}
+use Rattle.matrix.proofs.Whole.{same_inside, whole_inside}
 use Rattle.matrix.proofs.Held.{place_below}
 use Rattle.flat.specs.Moves.{Filled}
 
@@ -14,13 +14,7 @@ stays F f g xs ys e l p = ap (λ n. laid (fitted n f) ys) l ∙ ap (λ z. laid z
 pub filled_laid : {T : Type 0} (g : Form) (xs ys : List T) (x : T) → Filled xs ys (g.rows * g.cols) x → laid g ys ≡ filled g.rows g.cols x
 filled_laid {T} g xs ys x p =
     same_inside (laid g ys) (filled g.rows g.cols x)
-    (record {
-      below = λ r c h. inside_below g.rows g.cols r c (slice_get ys (place g.order g.rows g.cols r c)) h;
-      right = λ r c h. inside_right g.rows g.cols r c (slice_get ys (place g.order g.rows g.cols r c)) h;
-    })
-    (record {
-      below = λ r c h. inside_below g.rows g.cols r c (Some x) h;
-      right = λ r c h. inside_right g.rows g.cols r c (Some x) h;
-    })
+    (whole_inside g.rows g.cols (λ r c. slice_get ys (place g.order g.rows g.cols r c)))
+    (whole_inside g.rows g.cols (λ r c. Some x))
     refl refl
     (λ r c hr hc. ap (inside g.rows g.cols r c) (p.below (place g.order g.rows g.cols r c) (place_below g.order g.rows g.cols r c hr hc)))

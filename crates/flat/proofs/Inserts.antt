@@ -1,11 +1,11 @@
 -- A line put in.
-use Rattle.std.proofs.Common.{◌≡◌, ℕ, ◌+◌, ◌-◌, ◌*◌, ◌<◌, ◌≤◌, List, length, Some, sym, refl, ap, ◌∙◌, subst, ⊎_elim, arith}
+use Rattle.std.proofs.Common.{◌≡◌, ℕ, ◌+◌, ◌-◌, ◌*◌, ◌<◌, ◌≤◌, List, length, Some, sym, refl, ap, ◌∙◌, subst, ⊎_elim, mul-le-mul_right, arith}
 use Rattle.std.specs.List.{slice_get}
 use Rattle.std.proofs.lemmas.Bool.{cases_order, cases_eq}
 use Rattle.matrix.specs.Matrix.{Matrix, spliced, inside, insert_row, insert_col}
 use Rattle.matrix.specs.Shapes.{rowwise}
 use Rattle.matrix.proofs.Cells.{spliced_below, spliced_at, spliced_above, spliced_same}
-use Rattle.matrix.proofs.Products.{line_more, line_wider, line_ends, line_le, line_back}
+use Rattle.matrix.proofs.Products.{line_more, line_wider, line_ends, line_back}
 use Rattle.matrix.proofs.Whole.{inside_in, rowwise_is, whole_rowwise, whole_insert_row, whole_insert_col}
 use Rattle.flat.specs.Moves.{Copied, Spread}
 
@@ -59,7 +59,7 @@ inserted_outer {T} xs ys zs line outer n at ha el slid put =
     later : (r c : ℕ) → r < outer + 1 → c < n → at < r → slice_get zs (r * n + c) ≡ inside outer n (r - 1) c (slice_get xs ((r - 1) * n + c))
     later r c hr hc l =
         let back : r * n ≡ (r - 1) * n + n = line_back r n (omega arith) in
-        let p : at * n ≤ (r - 1) * n = line_le at (r - 1) n (omega arith) in
+        let p : at * n ≤ (r - 1) * n = mul-le-mul_right n (omega arith) in
         let q : (r - 1) * n + n ≤ outer * n = line_ends (r - 1) outer n (omega arith) in
         put.above (r * n + c) (omega arith)
         ∙ ap (slice_get ys) (omega arith)

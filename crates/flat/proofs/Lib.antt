@@ -1,3 +1,4 @@
+pub mod Segments
 pub mod Stretches
 pub mod Parts
 pub mod Inserts

@@ -18,11 +18,11 @@ laid_row f xs o = ap (λ z. laid (record { rows = f.rows; cols = f.cols; order =
 laid_column : {T : Type 0} (f : Form) (xs : List T) → f.order ≡ ColumnMajor → laid f xs ≡ turned (rowwise f.cols f.rows xs)
 laid_column f xs o = ap (λ z. laid (record { rows = f.rows; cols = f.cols; order = z }) xs) o ∙ laid_turned (record { rows = f.cols; cols = f.rows; order = RowMajor }) xs
 
--- what a pass over outer lines makes of row-major cells
+-- what is made of row-major cells, of which each row is a run
 pub in_row_major : {T : Type 0} (F : Matrix T → Matrix T) (f t : Form) (xs ys : List T) → f.order ≡ RowMajor → t.order ≡ f.order → rowwise t.rows t.cols ys ≡ F (rowwise f.rows f.cols xs) → laid t ys ≡ F (laid f xs)
 in_row_major F f t xs ys o e p = laid_row t ys (e ∙ o) ∙ p ∙ ap F (sym (laid_row f xs o))
 
--- what a pass over inner lines makes of column-major cells
+-- what is made of column-major cells, of which each column is a run, and a row has one cell in each
 pub in_column_major : {T : Type 0} (F : Matrix T → Matrix T) (f t : Form) (xs ys : List T) → f.order ≡ ColumnMajor → t.order ≡ f.order → rowwise t.cols t.rows ys ≡ turned (F (turned (rowwise f.cols f.rows xs))) → laid t ys ≡ F (laid f xs)
 in_column_major F f t xs ys o e p = laid_column t ys (e ∙ o) ∙ ap turned p ∙ ap F (sym (laid_column f xs o))
 

@@ -1,11 +1,12 @@
 // The calls of a grid on memory and a shape: any memory, any shape, any number gets the fixed answer.
-// kept: memory and shape stand apart, since the struct of both is `Grid`, whose calls come down to these.
+// kept: memory and shape stand apart, since the struct of both is `Grid`, whose calls come down to these; so do a row and a
+// column, as a grid's callers have them.
 // kept: `kept` and `order` stand on each call, since they speak of what it leaves and not of one value.
-ghost use Rattle.std.specs.Prelude.{◌≡◌, ℕ, ◌*◌, ◌≤◌, length, slice_set};
+ghost use Rattle.std.specs.Prelude.{◌≡◌, ℕ, ◌*◌, ◌≤◌, ◌<◌, length, slice_set, Some, IfSome};
 ghost use Rattle.std.specs.List.{slice_get};
 ghost use Rattle.cells.specs.Refusals.{answered, Kept, verdict, stands};
-ghost use Rattle.matrix.specs.Matrix.{Matrix, put_cell, filled, rotate_half, over};
-ghost use Rattle.matrix.specs.Shapes.{Form, form, fitted, held, laid};
+ghost use Rattle.matrix.specs.Matrix.{Matrix, put_cell, filled, inside, rotate_half, over};
+ghost use Rattle.matrix.specs.Shapes.{Form, form, fitted, held, laid, place};
 ghost use Rattle.matrix.specs.Rules.{grid_limits, put_answer};
 ghost use Rattle.matrix.specs.Axes.{along, along_form, inserted, removed, line_of, flipped, insert_along, remove_along, delete_along};
 
@@ -37,6 +38,7 @@ fn rows_along<T>(s: &[T], shape: Shape, axis: Axis) -> Shape
 }
 
 // The cell at flat place k, absent past the end.
+// kept: the library's two calls by one name, with the promise that every reading of a cell rests on.
 pub fn peek<T: Copy>(s: &[T], k: usize) -> Option<T>
     ensures answer { result ≡ slice_get s.now k }
 {
@@ -47,21 +49,29 @@ pub fn peek<T: Copy>(s: &[T], k: usize) -> Option<T>
 pub fn poke<T: Copy>(s: &mut [T], k: usize, x: T)
     ensures effect { s.new ≡ slice_set s.old k x }
 {
-    // kept: an index tested by hand; through `get_mut` the answers of both arms stayed open.
+    // kept: a test by hand, since after a write through `get_mut` what the slice holds stayed open
     if k < s.len() {
         s[k] = x;
+    }
+}
+
+// The flat place of the cell at (r, c) in n cells of memory, absent outside.
+fn place_in(n: usize, shape: Shape, r: usize, c: usize) -> Option<usize>
+    ensures answer { let f = fitted n (form shape) in result ≡ inside f.rows f.cols r c (Some (place f.order f.rows f.cols r c)) }
+    ensures within { IfSome result (λ k. k < n) }
+{
+    let shape = shape.fitted(n);
+    if r < shape.rows && c < shape.cols {
+        Some(place_of(shape, r, c))
+    } else {
+        None
     }
 }
 
 pub fn get<T: Copy>(s: &[T], shape: Shape, r: usize, c: usize) -> Option<T>
     ensures answer { result ≡ (held (form shape) s.now).cell r c }
 {
-    let shape = shape.fitted(s.len());
-    if r < shape.rows && c < shape.cols {
-        peek(s, place_of(shape, r, c))
-    } else {
-        None
-    }
+    peek(s, place_in(s.len(), shape, r, c)?)
 }
 
 pub fn put<T: Copy>(s: &mut [T], shape: Shape, r: usize, c: usize, x: T) -> Result<(), Refusal>
@@ -69,13 +79,9 @@ pub fn put<T: Copy>(s: &mut [T], shape: Shape, r: usize, c: usize, x: T) -> Resu
     ensures effect { held (form shape) s.new ≡ answered result (put_cell r c x (held (form shape) s.old)) (held (form shape) s.old) }
     ensures kept { Kept result s.old s.new }
 {
-    let shape = shape.fitted(s.len());
-    if r < shape.rows && c < shape.cols {
-        poke(s, place_of(shape, r, c), x);
-        Ok(())
-    } else {
-        Err(Refusal::Place)
-    }
+    let k = place_in(s.len(), shape, r, c).ok_or(Refusal::Place)?;
+    poke(s, k, x);
+    Ok(())
 }
 
 // One cell everywhere.

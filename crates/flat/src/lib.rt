@@ -1,6 +1,7 @@
-// The calls of a grid on its flat cells: each algorithm once, for every kind of cell and both orders.
+// The calls of a grid on its flat cells, for every kind of cell and both orders, and segments of a slice.
 #![tactic(auto)]
 
 pub mod calls;
 mod lines;
 mod moves;
+pub mod segment;

@@ -1,10 +1,11 @@
 // A row call on flat cells, in either order: the cells of a row lie side by side in a row-major matrix, and one in each
 // column of a column-major one. Each call moves a cell at most once.
 ghost use Rattle.std.specs.Prelude.{◌≡◌, ℕ, ◌+◌, ◌-◌, ◌*◌, ◌<◌, ◌≤◌, length};
-ghost use Rattle.matrix.specs.Matrix.{Matrix, left_across, insert_row, remove_row, flip_rows, rotate_half, row, over};
+ghost use Rattle.matrix.specs.Matrix.{Matrix, insert_row, remove_row, flip_rows, rotate_half, row, over};
 ghost use Rattle.matrix.specs.Shapes.{form, laid, place, inserted_form, deleted_form};
 
 use crate::moves::{copy, exchange, reverse, slide, spread, tighten};
+use matrix::checks::left_across;
 use matrix::shape::{Order, Shape};
 
 // The flat place of a cell inside.
@@ -14,7 +15,7 @@ pub(crate) fn place_of(shape: Shape, r: usize, c: usize) -> usize
     ensures answer { result ≡ place shape.order shape.rows shape.cols r c }
     ensures inside { result < shape.rows * shape.cols }
 {
-    // kept: the match is what the two orders are, and the only place that says where a cell lies
+    // kept: the match is what the two orders are, and no step to hand over
     match shape.order {
         Order::RowMajor => r * shape.cols + c,
         Order::ColumnMajor => c * shape.rows + r,
@@ -34,7 +35,8 @@ pub(crate) fn insert_line<T: Copy>(s: &mut [T], shape: Shape, i: usize, line: &[
 {
     let rows = shape.rows;
     let cols = line.len();
-    // kept: the orders take different moves, one of all later rows or one a column: in one loop each run would be of one cell
+    // kept: all later rows move up at once, or each column by itself: one loop over both would need a length and a stride of each
+    // run, and be no plainer
     match shape.order {
         Order::RowMajor => {
             let from = i * cols;
@@ -42,7 +44,8 @@ pub(crate) fn insert_line<T: Copy>(s: &mut [T], shape: Shape, i: usize, line: &[
             copy(s, from, line, 0, cols);
         }
         Order::ColumnMajor => {
-            // kept: a column moves into where the next one stood, so no chunk of the slice holds both its places
+            // kept: by `line.iter().enumerate().rev()` the loop's invariant is on the items still to come, and no longer names the
+            // column; and no chunk of the slice holds both places of a column, which moves into where the next one stood
             for c in (0..cols).rev() {
                 spread(s, c * rows, c * (rows + 1), rows, i, line[c]);
             }
@@ -56,7 +59,7 @@ pub(crate) fn insert_line<T: Copy>(s: &mut [T], shape: Shape, i: usize, line: &[
 }
 
 // Row i, copied into the memory's first cells.
-// kept: `room` stands in three contracts; a lent view with it as a ghost field proves, and is made and named at each call
+// kept: `room` stands in four contracts; a lent view with it as a ghost field proves, and is made and named at each call
 pub(crate) fn copy_line<T: Copy>(s: &[T], shape: Shape, i: usize, memory: &mut [T])
     requires at { i < shape.rows }
     requires long { shape.cols ≤ length memory.old }
@@ -65,23 +68,16 @@ pub(crate) fn copy_line<T: Copy>(s: &[T], shape: Shape, i: usize, memory: &mut [
 {
     let rows = shape.rows;
     let cols = shape.cols;
-    // kept: a row is one run or one cell a column; one loop for both, by runs of one cell, was 1.3 times slower at 16 x 16
+    // kept: a row is one run of cells, or a cell of each column: one loop over both would take the run cell by cell, 1.3 times
+    // slower at 16 × 16
     match shape.order {
         Order::RowMajor => copy(memory, 0, s, i * cols, cols),
         Order::ColumnMajor => {
-            // kept: a `zip` with `iter_mut` leaves memory unknown; `chunks_exact` with `enumerate` left `[i]` open, and is no plainer
-            for c in 0..cols {
-                memory[c] = s[c * rows + i];
+            for (c, x) in memory[..cols].iter_mut().enumerate() {
+                *x = s[c * rows + i];
             }
         }
     }
-}
-
-// How long the lines across are when one of `lines` goes.
-fn across_left(lines: usize, across: usize) -> usize
-    ensures answer { result ≡ left_across lines across }
-{
-    if lines == 1 { 0 } else { across }
 }
 
 // Row i goes: what lies after it moves down, or each column, the first first, moves down without its cell.
@@ -93,14 +89,15 @@ pub(crate) fn delete_line<T: Copy>(s: &mut [T], shape: Shape, i: usize) -> Shape
 {
     let rows = shape.rows;
     let cols = shape.cols;
-    // kept: as in `insert_line`
+    // kept: all later rows move down at once, or each column by itself: one loop over both would need a length and a stride of
+    // each run, and be no plainer
     match shape.order {
         Order::RowMajor => {
             let from = i * cols;
             slide(s, from + cols, from, rows * cols - (from + cols));
         }
         Order::ColumnMajor => {
-            // kept: as in `insert_line`, a column moves into where the one before it stood
+            // kept: a column moves into where the one before it stood, so that no chunk of the slice holds both its places
             for c in 0..cols {
                 tighten(s, c * rows, c * (rows - 1), rows - 1, i);
             }
@@ -108,7 +105,7 @@ pub(crate) fn delete_line<T: Copy>(s: &mut [T], shape: Shape, i: usize) -> Shape
     }
     Shape {
         rows: rows - 1,
-        cols: across_left(rows, cols),
+        cols: left_across(rows, cols),
         order: shape.order,
     }
 }
@@ -120,7 +117,8 @@ pub(crate) fn flip_lines<T: Copy>(s: &mut [T], shape: Shape)
 {
     let rows = shape.rows;
     let cols = shape.cols;
-    // kept: rows change places whole, while a column is turned round
+    // kept: two rows change places whole, or each column is turned round: one loop over both would need a length and a stride of
+    // each run, and be no plainer
     match shape.order {
         Order::RowMajor => {
             // kept: after `chunks_exact_mut` the check knows the slice's length and none of its cells
@@ -129,7 +127,7 @@ pub(crate) fn flip_lines<T: Copy>(s: &mut [T], shape: Shape)
             }
         }
         Order::ColumnMajor => {
-            // kept: with `for column in s.chunks_exact_mut(rows)` what the slice holds stayed open, as above
+            // kept: after `chunks_exact_mut`, which would hand out each column, the check knows none of the slice's cells
             for c in 0..cols {
                 reverse(s, c * rows, rows);
             }

@@ -10,16 +10,13 @@ use Rattle.matrix.specs.Matrix.{Matrix, empty, filled}
 use Rattle.matrix.specs.declared.shape.Shape.{Shape}
 use Rattle.matrix.specs.Shapes.{Form, form, place, laid, held, vacant}
 use Rattle.matrix.specs.Rules.{grid_limits, from_vec_answer, from_vec, new_answer, init}
-use Rattle.matrix.proofs.Whole.{same_inside, inside_below, inside_right}
+use Rattle.matrix.proofs.Whole.{same_inside, whole_inside}
 use Rattle.matrix.proofs.Held.{held_in}
 use Rattle.grid.specs.Makings.{from_vec_form, new_form}
 
 pub laid_vacant : {T : Type 0} (o : Order) (xs : List T) → laid (vacant o) xs ≡ empty
 laid_vacant o xs = same_inside (laid (vacant o) xs) empty
-    (record {
-      below = λ r c h. inside_below 0 0 r c (slice_get xs (place o 0 0 r c)) h;
-      right = λ r c h. inside_right 0 0 r c (slice_get xs (place o 0 0 r c)) h;
-    })
+    (whole_inside 0 0 (λ r c. slice_get xs (place o 0 0 r c)))
     (record { below = λ r c h. refl; right = λ r c h. refl })
     refl refl (λ r c hr hc. absurd (omega arith))
 
@@ -70,7 +67,7 @@ vec_order o N n cols s e = ap (λ (f : Form). f.order) e ∙ vacant_order o (fro
 
 filled_empty : {T : Type 0} (x : T) → filled 0 0 x ≡ empty
 filled_empty x = same_inside (filled 0 0 x) empty
-    (record { below = λ r c h. inside_below 0 0 r c (Some x) h; right = λ r c h. inside_right 0 0 r c (Some x) h })
+    (whole_inside 0 0 (λ r c. Some x))
     (record { below = λ r c h. refl; right = λ r c h. refl })
     refl refl (λ r c hr hc. absurd (omega arith))
 

@@ -1,3 +1,2 @@
 pub mod Newest
-pub mod Joins
 pub mod Pulls

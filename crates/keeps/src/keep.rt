@@ -7,6 +7,7 @@ use cells::refusal::Refusal;
 
 // A keep means a list of cells and a limit M of at most 65,536, which never changes. It may be in order or not: emptying
 // leaves any keep in order, calls leave it so, and the rules of the other calls are promised in order only.
+// kept: `ordered` is a premise, since by the rules a keep may be out of order; as an invariant it would shut such keeps out.
 pub trait Keep {
     type Cell: Copy;
 

@@ -1,4 +1,5 @@
 // Lines that go onto a keep and come off it.
+// kept: `ordered` is a premise, since by the rules a keep may be out of order, and what it does then is not promised.
 ghost use Rattle.std.specs.Prelude.{◌≡◌, ℕ, ◌+◌, ◌≤◌, List, ◌++◌, length};
 ghost use Rattle.keeps.specs.Kept.{Store, holding};
 

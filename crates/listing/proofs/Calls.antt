@@ -1,10 +1,10 @@
 -- Words say one call at most.
 use Rattle.std.proofs.Common.{◌≡◌, ℕ, zero, suc, ◌+◌, List, [], ◌∷◌, codes, length, ◌≤◌, ◌-◌, get_or, take, drop, take_all, ap, sym, ◌∙◌, subst, Bor, arith, rules}
-use Rattle.listing.specs.declared.name.Name.{Name}
 use Rattle.listing.specs.declared.call.Fresh.{Fresh}
 use Rattle.listing.specs.declared.call.Ground.{Ground}
 use Rattle.listing.specs.declared.call.SheetKind.{SheetKind}
-use Rattle.listing.specs.Calls.{Nothing, NoGround, SaysCall, SaysSheet, SaysGround, SaysKeep, Turned, Other, kind_word, texts}
+use Rattle.listing.specs.Spellings.{Nothing}
+use Rattle.listing.specs.Calls.{SaysSheet, SaysGround, SaysKeep, Turned, Other, kind_word, texts}
 
 -- one word more
 pub turned_more : (n : ℕ) (ws r : List (List ℕ)) → Turned n ws (codes "turned" ∷ r) → Turned (suc n) ws r
@@ -32,12 +32,12 @@ turned_once (suc n) (suc m) ws r s h k u v =
     let e : k.0 ≡ h.0 = search (rules, k.1, h.1) in turned_once n m h.0 r s h.2 (subst (λ (x : List (List ℕ)). Turned m x s) e k.2) u v
 
 -- a ground begins with no word `turned`
-pub ground_other : (ws : List (List ℕ)) (g : Ground) (last : List (List ℕ)) → SaysGround ws g last → Other ws
+pub ground_other : (ws : List (List ℕ)) (g : Ground) (last : List (List ℕ)) → SaysGround ws (g, last) → Other ws
 ground_other ws (Ground.Grid order n) last h more e = search (rules, h.1, e)
 ground_other ws (Ground.Seats n) last h more e = search (rules, h.1, e)
 
 -- what comes after the words of a ground is one list
-pub ground_once : (ws : List (List ℕ)) (g k : Ground) (r s : List (List ℕ)) → SaysGround ws g r → SaysGround ws k s → r ≡ s
+pub ground_once : (ws : List (List ℕ)) (g k : Ground) (r s : List (List ℕ)) → SaysGround ws (g, r) → SaysGround ws (k, s) → r ≡ s
 ground_once ws (Ground.Grid o n) (Ground.Grid p m) r s h e = search (rules, h.1, e.1)
 ground_once ws (Ground.Grid o n) (Ground.Seats m) r s h e = search (rules, h.1, e.1)
 ground_once ws (Ground.Seats n) (Ground.Grid p m) r s h e = search (rules, h.1, e.1)
@@ -45,27 +45,23 @@ ground_once ws (Ground.Seats n) (Ground.Seats m) r s h e = search (rules, h.1, e
 
 -- the ground of a sheet stands after its turns
 pub sheet_ground : (ws words rest : List (List ℕ)) (kind : SheetKind) (n : ℕ) (f : Fresh) → ws ≡ kind_word kind ∷ words
-    → Turned n words rest → Other rest → SaysSheet ws f → (last : List (List ℕ)) × SaysGround rest f.layout.ground last × SaysKeep last f.keeping
+    → Turned n words rest → Other rest → SaysSheet ws f → (last : List (List ℕ)) × SaysGround rest (f.layout.ground, last) × SaysKeep last f.keeping
 sheet_ground ws words rest kind n f e t other h =
     let tail : h.0 ≡ words = search (rules, e, h.3) in
     let moved : Turned f.layout.turns words h.1 = subst (λ (x : List (List ℕ)). Turned f.layout.turns x h.1) tail h.4 in
     let same : h.1 ≡ rest = turned_once f.layout.turns n words h.1 rest moved t (ground_other h.1 f.layout.ground h.2 h.5) other in
-    (h.2, subst (λ (x : List (List ℕ)). SaysGround x f.layout.ground h.2) same h.5, h.6)
+    (h.2, subst (λ (x : List (List ℕ)). SaysGround x (f.layout.ground, h.2)) same h.5, h.6)
 
 -- no sheet fits where no ground comes after the turns
 pub no_ground : (ws words rest : List (List ℕ)) (kind : SheetKind) (n : ℕ) → ws ≡ kind_word kind ∷ words → Turned n words rest
-    → Other rest → NoGround rest → Nothing (SaysSheet ws)
+    → Other rest → Nothing (SaysGround rest) → Nothing (SaysSheet ws)
 no_ground ws words rest kind n e t other none f h =
-    let ground : (last : List (List ℕ)) × SaysGround rest f.layout.ground last × SaysKeep last f.keeping = sheet_ground ws words rest kind n f e t other h in
-    none f.layout.ground ground.0 ground.1
+    let ground : (last : List (List ℕ)) × SaysGround rest (f.layout.ground, last) × SaysKeep last f.keeping = sheet_ground ws words rest kind n f e t other h in
+    none (f.layout.ground, ground.0) ground.1
 
 -- no sheet fits where no keep comes after the ground
 pub no_keep : (ws words rest last : List (List ℕ)) (kind : SheetKind) (n : ℕ) (g : Ground) → ws ≡ kind_word kind ∷ words
-    → Turned n words rest → Other rest → SaysGround rest g last → Nothing (SaysKeep last) → Nothing (SaysSheet ws)
+    → Turned n words rest → Other rest → SaysGround rest (g, last) → Nothing (SaysKeep last) → Nothing (SaysSheet ws)
 no_keep ws words rest last kind n g e t other stands none f h =
-    let ground : (last : List (List ℕ)) × SaysGround rest f.layout.ground last × SaysKeep last f.keeping = sheet_ground ws words rest kind n f e t other h in
+    let ground : (last : List (List ℕ)) × SaysGround rest (f.layout.ground, last) × SaysKeep last f.keeping = sheet_ground ws words rest kind n f e t other h in
     none f.keeping (subst (λ (x : List (List ℕ)). SaysKeep x f.keeping) (ground_once rest f.layout.ground g ground.0 last ground.1 stands) ground.2)
-
--- what fits no call of a name, fits none of a name that is the same
-pub misnamed : (name other : Name) (ws : List (List ℕ)) → name ≡ other → Nothing (SaysCall other ws) → Nothing (SaysCall name ws)
-misnamed name other ws e none x h = none x (subst (λ (n : Name). SaysCall n ws x) e h)

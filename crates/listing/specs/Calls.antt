@@ -13,16 +13,12 @@ use Rattle.listing.specs.declared.call.Fresh.{Fresh}
 use Rattle.listing.specs.declared.call.Call.{Call}
 use Rattle.listing.specs.declared.wrong.Wrong.{Wrong}
 use Rattle.listing.specs.Names.{name_word}
-use Rattle.listing.specs.Spellings.{Number}
+use Rattle.listing.specs.Spellings.{Nothing, Number}
 use denote.Ref.{Bor}
 
 -- The words, of which each is a text.
 abbrev pub texts : List (Bor (List ℕ)) → List (List ℕ)
 texts ws = map (λ w. w.now) ws
-
--- Nothing has it.
-abbrev pub Nothing : {A : Type 0} → (A → Type 0) → Type 0
-Nothing P = (x : _) → P x → ⊥
 
 abbrev pub kind_word : SheetKind → List ℕ
 kind_word Passages = codes "passages"
@@ -37,13 +33,10 @@ abbrev pub order_word : Order → List ℕ
 order_word RowMajor = codes "row-major"
 order_word ColumnMajor = codes "column-major"
 
--- the words that a ground begins, and those after it
-abbrev pub SaysGround : List (List ℕ) → Ground → List (List ℕ) → Type 0
-SaysGround ws (Ground.Grid order n) rest = (a : List ℕ) × (ws ≡ codes "grid" ∷ order_word order ∷ a ∷ rest) × Number 64 a n
-SaysGround ws (Ground.Seats n) rest = (a : List ℕ) × (ws ≡ codes "seats" ∷ a ∷ rest) × Number 64 a n
-
-abbrev pub NoGround : List (List ℕ) → Type 0
-NoGround ws = (under : Ground) (rest : List (List ℕ)) → SaysGround ws under rest → ⊥
+-- a ground, and the words after it
+abbrev pub SaysGround : List (List ℕ) → Ground × List (List ℕ) → Type 0
+SaysGround ws (Ground.Grid order n, rest) = (a : List ℕ) × (ws ≡ codes "grid" ∷ order_word order ∷ a ∷ rest) × Number 64 a n
+SaysGround ws (Ground.Seats n, rest) = (a : List ℕ) × (ws ≡ codes "seats" ∷ a ∷ rest) × Number 64 a n
 
 -- the words begin with as many words `turned`, and then come the others
 abbrev pub Turned : ℕ → List (List ℕ) → List (List ℕ) → Type 0
@@ -61,7 +54,7 @@ SaysKeep ws (Keeping.Joined m n) = (a : List ℕ) × (b : List ℕ) × (ws ≡ c
 -- a kind, a ground after as many turns, and a keep
 abbrev pub SaysSheet : List (List ℕ) → Fresh → Type 0
 SaysSheet ws f = (words : List (List ℕ)) × (rest : List (List ℕ)) × (last : List (List ℕ)) × (ws ≡ kind_word f.kind ∷ words)
-    × Turned f.layout.turns words rest × SaysGround rest f.layout.ground last × SaysKeep last f.keeping
+    × Turned f.layout.turns words rest × SaysGround rest (f.layout.ground, last) × SaysKeep last f.keeping
 
 -- the memory for a line, 256 cells where it is left out
 abbrev pub SaysRoom : List (List ℕ) → ℕ → Type 0
@@ -86,8 +79,8 @@ abbrev pub SaysRemoval : List (List ℕ) → ℕ × ℕ → Type 0
 SaysRemoval ws p = (a : List ℕ) × (rest : List (List ℕ)) × (ws ≡ a ∷ rest) × Number 64 a p.0 × SaysRoom rest p.1
 
 -- no words say a call that is its name alone
-abbrev pub SaysAlone : List (List ℕ) → Call → Call → Type 0
-SaysAlone ws call x = (x ≡ call) × (ws ≡ [])
+abbrev pub SaysAlone : Call → List (List ℕ) → Call → Type 0
+SaysAlone call ws x = (x ≡ call) × (ws ≡ [])
 
 -- The words after each name, and the call that they say.
 abbrev pub SaysCall : Name → List (List ℕ) → Call → Type 0
@@ -98,19 +91,19 @@ SaysCall Name.InsertRow ws x = (p : ℕ × Bor (List (Bor (List ℕ)))) × (x �
 SaysCall Name.InsertCol ws x = (p : ℕ × Bor (List (Bor (List ℕ)))) × (x ≡ Call.Insert Col p.0 p.1) × SaysInsertion ws p
 SaysCall Name.RemoveRow ws x = (i : ℕ) × (room : ℕ) × (x ≡ Call.Remove Row i room) × SaysRemoval ws (i, room)
 SaysCall Name.RemoveCol ws x = (i : ℕ) × (room : ℕ) × (x ≡ Call.Remove Col i room) × SaysRemoval ws (i, room)
-SaysCall Name.Transpose ws x = SaysAlone ws Call.Transpose x
-SaysCall Name.FlipRows ws x = SaysAlone ws (Call.Flip Row) x
-SaysCall Name.FlipCols ws x = SaysAlone ws (Call.Flip Col) x
+SaysCall Name.Transpose ws x = SaysAlone Call.Transpose ws x
+SaysCall Name.FlipRows ws x = SaysAlone (Call.Flip Row) ws x
+SaysCall Name.FlipCols ws x = SaysAlone (Call.Flip Col) ws x
 SaysCall Name.StepBack ws x = (room : ℕ) × (x ≡ Call.StepBack room) × SaysRoom ws room
-SaysCall Name.Publish ws x = SaysAlone ws Call.Publish x
-SaysCall Name.Reopen ws x = SaysAlone ws Call.Reopen x
-SaysCall Name.Size ws x = SaysAlone ws Call.Size x
+SaysCall Name.Publish ws x = SaysAlone Call.Publish ws x
+SaysCall Name.Reopen ws x = SaysAlone Call.Reopen ws x
+SaysCall Name.Size ws x = SaysAlone Call.Size ws x
 SaysCall Name.Get ws x = (r : ℕ) × (c : ℕ) × (x ≡ Call.Get r c) × SaysPlace ws (r, c)
-SaysCall Name.Owed ws x = SaysAlone ws Call.Owed x
-SaysCall Name.Kept ws x = SaysAlone ws Call.Kept x
-SaysCall Name.Settled ws x = SaysAlone ws Call.Settled x
-SaysCall Name.Show ws x = SaysAlone ws Call.Show x
-SaysCall Name.Tally ws x = SaysAlone ws Call.Tally x
+SaysCall Name.Owed ws x = SaysAlone Call.Owed ws x
+SaysCall Name.Kept ws x = SaysAlone Call.Kept ws x
+SaysCall Name.Settled ws x = SaysAlone Call.Settled ws x
+SaysCall Name.Show ws x = SaysAlone Call.Show ws x
+SaysCall Name.Tally ws x = SaysAlone Call.Tally ws x
 
 -- A line is read as nothing where it has no word, as a call that it says, or as what is wrong with it: it begins with no name, or
 -- with a name, and the words after it say no call of that name.

@@ -22,10 +22,14 @@ passage_word (Passage.Mark m) = mark_word m
 abbrev pub penalty_word : Penalty → List ℕ
 penalty_word p = signed_decimal p.0
 
--- A cell is read from a word just where the word spells it, and nothing where it spells none.
-abbrev pub Read : {A : Type 0} → (List ℕ → A → Type 0) → List ℕ → Option A → Type 0
-Read spells w None = (x : _) → spells w x → ⊥
-Read spells w (Some x) = spells w x
+-- Nothing has it.
+abbrev pub Nothing : {A : Type 0} → (A → Type 0) → Type 0
+Nothing P = (x : _) → P x → ⊥
+
+-- A word, or words, are read as what they say, and as nothing just where they say nothing.
+abbrev pub Read : {W A : Type 0} → (W → A → Type 0) → W → Option A → Type 0
+Read says w None = Nothing (says w)
+Read says w (Some x) = says w x
 
 -- decimal digits alone write n, which has at most k bits
 abbrev pub Number : ℕ → List ℕ → ℕ → Type 0

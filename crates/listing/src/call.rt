@@ -1,6 +1,8 @@
 // What a line of a scorer's list asks for.
-ghost use Rattle.std.specs.Prelude.{◌≡◌, [], Ok, None, IfSome, IsNone};
-ghost use Rattle.listing.specs.Calls.{Reads, SaysAlone, SaysPlace, SaysPut, SaysInsertion, SaysRemoval, SaysCall, SaysRoom, SaysSheet, SaysKeep, SaysGround, NoGround, Turned, Other, Nothing, KindNamed, texts};
+ghost use Rattle.std.specs.Prelude.{◌≡◌, [], Ok, None};
+ghost use Rattle.std.specs.Option.{option_map};
+ghost use Rattle.listing.specs.Spellings.{Read};
+ghost use Rattle.listing.specs.Calls.{Reads, SaysAlone, SaysPlace, SaysPut, SaysInsertion, SaysRemoval, SaysCall, SaysRoom, SaysSheet, SaysKeep, SaysGround, Turned, Other, KindNamed, texts};
 
 use crate::digits::number;
 use crate::name::Name;
@@ -110,8 +112,7 @@ impl<'a> Call<'a> {
 
 // The call of a name and the words after it.
 fn named<'a>(name: Name, words: &'a [&'a str]) -> Option<Call<'a>>
-    ensures call { IfSome result (SaysCall name (texts words.now)) }
-    ensures none { IsNone result → Nothing (SaysCall name (texts words.now)) }
+    ensures call { Read (SaysCall name) (texts words.now) result }
 {
     match name {
         Name::New => Some(Call::New(sheet(words)?)),
@@ -157,8 +158,7 @@ fn named<'a>(name: Name, words: &'a [&'a str]) -> Option<Call<'a>>
 
 // A call that is its name alone.
 fn alone<'a>(call: Call<'a>, words: &[&str]) -> Option<Call<'a>>
-    ensures alone { IfSome result (SaysAlone (texts words.now) call.entry) }
-    ensures none { IsNone result → Nothing (SaysAlone (texts words.now) call.entry) }
+    ensures alone { Read (SaysAlone call.entry) (texts words.now) result }
 {
     match words {
         [] => Some(call),
@@ -167,8 +167,7 @@ fn alone<'a>(call: Call<'a>, words: &[&str]) -> Option<Call<'a>>
 }
 
 fn place(words: &[&str]) -> Option<(usize, usize)>
-    ensures place { IfSome result (SaysPlace (texts words.now)) }
-    ensures none { IsNone result → Nothing (SaysPlace (texts words.now)) }
+    ensures place { Read SaysPlace (texts words.now) result }
 {
     match words {
         [r, c] => Some((number(r)?, number(c)?)),
@@ -177,8 +176,7 @@ fn place(words: &[&str]) -> Option<(usize, usize)>
 }
 
 fn put<'a>(words: &'a [&'a str]) -> Option<(usize, usize, &'a str)>
-    ensures put { IfSome result (SaysPut (texts words.now)) }
-    ensures none { IsNone result → Nothing (SaysPut (texts words.now)) }
+    ensures put { Read SaysPut (texts words.now) result }
 {
     match words {
         [r, c, cell] => Some((number(r)?, number(c)?, cell)),
@@ -187,8 +185,7 @@ fn put<'a>(words: &'a [&'a str]) -> Option<(usize, usize, &'a str)>
 }
 
 fn insertion<'a>(words: &'a [&'a str]) -> Option<(usize, &'a [&'a str])>
-    ensures insertion { IfSome result (SaysInsertion (texts words.now)) }
-    ensures none { IsNone result → Nothing (SaysInsertion (texts words.now)) }
+    ensures insertion { Read SaysInsertion (texts words.now) result }
 {
     match words {
         [i, cells @ ..] => Some((number(i)?, cells)),
@@ -197,8 +194,7 @@ fn insertion<'a>(words: &'a [&'a str]) -> Option<(usize, &'a [&'a str])>
 }
 
 fn removal(words: &[&str]) -> Option<(usize, usize)>
-    ensures removal { IfSome result (SaysRemoval (texts words.now)) }
-    ensures none { IsNone result → Nothing (SaysRemoval (texts words.now)) }
+    ensures removal { Read SaysRemoval (texts words.now) result }
 {
     match words {
         [i, room @ ..] => Some((number(i)?, room_of(room)?)),
@@ -208,8 +204,7 @@ fn removal(words: &[&str]) -> Option<(usize, usize)>
 
 // How many cells of memory there are for a line: as many as the longest has, where its call does not say.
 fn room_of(words: &[&str]) -> Option<usize>
-    ensures room { IfSome result (SaysRoom (texts words.now)) }
-    ensures none { IsNone result → Nothing (SaysRoom (texts words.now)) }
+    ensures room { Read SaysRoom (texts words.now) result }
 {
     match words {
         [] => Some(SIDE),
@@ -219,8 +214,7 @@ fn room_of(words: &[&str]) -> Option<usize>
 }
 
 fn sheet(words: &[&str]) -> Option<Fresh>
-    ensures sheet { IfSome result (SaysSheet (texts words.now)) }
-    ensures none { IsNone result → Nothing (SaysSheet (texts words.now)) }
+    ensures sheet { Read SaysSheet (texts words.now) result }
 {
     let [kind, words @ ..] = words else {
         return None;
@@ -255,8 +249,7 @@ fn read_turns<'a>(words: &'a [&'a str]) -> (usize, &'a [&'a str])
 
 // The ground that the first words name, and the words after them.
 fn read_ground<'a>(words: &'a [&'a str]) -> Option<(Ground, &'a [&'a str])>
-    ensures ground { IfSome result (λ p. SaysGround (texts words.now) p.0 (texts p.1.now)) }
-    ensures none { IsNone result → NoGround (texts words.now) }
+    ensures ground { Read SaysGround (texts words.now) (option_map (λ p. (p.0, texts p.1.now)) result) }
 {
     match words {
         ["grid", "row-major", cells, rest @ ..] => {
@@ -271,8 +264,7 @@ fn read_ground<'a>(words: &'a [&'a str]) -> Option<(Ground, &'a [&'a str])>
 }
 
 fn read_keep(words: &[&str]) -> Option<Keeping>
-    ensures keep { IfSome result (SaysKeep (texts words.now)) }
-    ensures none { IsNone result → Nothing (SaysKeep (texts words.now)) }
+    ensures keep { Read SaysKeep (texts words.now) result }
 {
     match words {
         ["stack", most] => Some(Keeping::Stack(number(most)?)),

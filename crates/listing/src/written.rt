@@ -16,11 +16,14 @@ pub trait Written: Kind + Clone {
     ghost spells: { List ℕ → Self → Type 0 };
 
     // The cell that a word spells.
-    // kept: std's `FromStr` of a cell could stand only in `cells`, which knows no list
+    // kept: a `FromStr` of a cell could stand only in `cells`, which knows no list; one of `Spelt<T>` would call this, and each
+    // caller would take the `Spelt` off again
     fn read(word: &str) -> Option<Self>
         ensures cell { Read spells word.now result };
 
     // Writes the word that spells this cell.
+    // kept: a `Display` of a cell could stand only in `cells`, which knows no list; that of `Spelt<T>` calls this, so that
+    // `T: Written` is all that is asked where cells are printed
     fn show<W: fmt::Write>(&self, f: &mut fmt::Formatter<W>) -> fmt::Result
         ensures text { WritesOnOk W.write_str_gives f.old result (spelling self.now) f.new };
 }

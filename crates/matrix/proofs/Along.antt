@@ -13,7 +13,7 @@ pub along_twice : {T : Type 0} (ax : Axis) (m : Matrix T) → along ax (along ax
 along_twice Row m = refl
 along_twice Col m = refl
 
-pub held_along : {T : Type 0} (ax : Axis) (f : Form) (xs : List T) → held (along_form ax f) xs ≡ along ax (held f xs)
+held_along : {T : Type 0} (ax : Axis) (f : Form) (xs : List T) → held (along_form ax f) xs ≡ along ax (held f xs)
 held_along Row f xs = refl
 held_along Col f xs = held_turned f xs
 
@@ -22,8 +22,12 @@ pub lies_along : {T : Type 0} (ax : Axis) (f g t : Form) (xs : List T) → g ≡
 lies_along ax f g t xs eg et = ap (λ z. laid z xs) et ∙ ap (λ z. held z xs) eg ∙ held_along ax f xs
 
 -- b is n along the axis, and the memory has room for it
-pub stands_along : {T : Type 0} (ax : Axis) (n b : Form) (ys : List T) → b ≡ along_form ax n → n.rows * n.cols ≤ length ys → held b ys ≡ along ax (laid n ys)
+stands_along : {T : Type 0} (ax : Axis) (n b : Form) (ys : List T) → b ≡ along_form ax n → n.rows * n.cols ≤ length ys → held b ys ≡ along ax (laid n ys)
 stands_along ax n b ys eb room = ap (λ z. held z ys) eb ∙ held_along ax n ys ∙ ap (along ax) (held_in n ys room)
+
+-- xs lie in t as m along the axis, and ys in n as F makes of that: they are what F makes of m along the axis
+pub changed_along : {T : Type 0} (F : Matrix T → Matrix T) (ax : Axis) (t n b : Form) (xs ys : List T) (m : Matrix T) → b ≡ along_form ax n → n.rows * n.cols ≤ length ys → laid n ys ≡ F (laid t xs) → laid t xs ≡ along ax m → held b ys ≡ along ax (F (along ax m))
+changed_along F ax t n b xs ys m eb room done lies = stands_along ax n b ys eb room ∙ ap (along ax) (done ∙ ap F lies)
 
 pub within_along : {T : Type 0} {l : Limits} {m : Matrix T} (ax : Axis) → Within l m → Within l (along ax m)
 within_along Row w = w

@@ -60,6 +60,12 @@ skipped_below i k h = grind (arith, nat_tests)
 pub skipped_above : (i k : ℕ) → i ≤ k → skipped i k ≡ k + 1
 skipped_above i k h = grind (arith, nat_tests)
 
+pub skipped_within : (i k n : ℕ) → k < n - 1 → skipped i k < n
+skipped_within i k n h = ⊎_elim
+    (λ (l : k < i). omega (arith, skipped_below i k l))
+    (λ (l : i ≤ k). omega (arith, skipped_above i k l))
+    (cases_lt k i)
+
 -- lists with the same cell at each place
 pub nth_ext : {X : Type 0} (xs ys : List X) → ((k : ℕ) → slice_get xs k ≡ slice_get ys k) → xs ≡ ys
 nth_ext [] [] h = refl

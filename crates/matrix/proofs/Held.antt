@@ -28,10 +28,6 @@ pub laid_turned : {T : Type 0} (f : Form) (xs : List T) → laid (turned_form f)
 laid_turned f xs = same_matrix (laid (turned_form f) xs) (turned (laid f xs)) refl refl
     (λ r c. inside_turned f.cols f.rows r c (slice_get xs (place (other f.order) f.cols f.rows r c)) ∙ ap (λ k. inside f.rows f.cols c r (slice_get xs k)) (place_turned f.order f.rows f.cols r c))
 
-pub order_back : (o : Order) → other (other o) ≡ o
-order_back RowMajor = refl
-order_back ColumnMajor = refl
-
 -- a form that n cells are enough for
 pub fitted_in : (n : ℕ) (f : Form) → f.rows * f.cols ≤ n → fitted n f ≡ f
 fitted_in n f h = grind (arith, nat_tests)
@@ -68,10 +64,6 @@ turns T = record {
 pub place_below : (o : Order) (R C r c : ℕ) → r < R → c < C → place o R C r c < R * C
 place_below RowMajor R C r c hr hc = omega (arith, line_ends r R C hr)
 place_below ColumnMajor R C r c hr hc = omega (arith, mul_comm R C, line_ends c C R hc)
-
--- a cell that is read at its place
-pub got : {T : Type 0} (f : Form) (xs : List T) (r c k : ℕ) (x : T) → r < f.rows → c < f.cols → k ≡ place f.order f.rows f.cols r c → slice_get xs k ≡ Some x → Some x ≡ (laid f xs).cell r c
-got f xs r c k x hr hc e i = sym (inside_in f.rows f.cols r c (slice_get xs (place f.order f.rows f.cols r c)) hr hc ∙ ap (slice_get xs) (sym e) ∙ i)
 
 -- memory under a shape means a matrix as every board has it
 pub laid_shaped : {T : Type 0} (f : Form) (xs : List T) → (f.rows ≡ 0 → f.cols ≡ 0) → (f.cols ≡ 0 → f.rows ≡ 0) → f.rows * f.cols ≤ length xs → Shaped (laid f xs)

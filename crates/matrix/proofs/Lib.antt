@@ -1,12 +1,13 @@
 pub mod Products
 pub mod Cells
+pub mod Goes
 pub mod Whole
 pub mod Undo
 pub mod Held
 pub mod Along
 pub mod Flats
 pub mod Gather
-pub mod Cross
 pub mod Stores
 pub mod Stretches
 pub mod Runs
+pub mod Longer

@@ -14,9 +14,6 @@ line_wider a w = mul-add a w 1 ∙ ap (λ x. a * w + x) (mul-one a)
 pub line_ends : (a b w : ℕ) → a < b → a * w + w ≤ b * w
 line_ends a b w h = let p : (a + 1) * w ≤ b * w = mul-le-mul_right w (omega arith) in omega (arith, line_more a w)
 
-pub line_le : (a b w : ℕ) → a ≤ b → a * w ≤ b * w
-line_le a b w h = mul-le-mul_right w h
-
 pub line_back : (a w : ℕ) → 0 < a → a * w ≡ (a - 1) * w + w
 line_back a w h = let e : a ≡ a - 1 + 1 = omega arith in ap (λ j. j * w) e ∙ line_more (a - 1) w
 

@@ -11,6 +11,3 @@ taken_within xs k m = let e = length-take (cond (leb k (min (length xs) m)) k 0)
 
 pub joined_within : {X : Type 0} (xs ys : List X) (m : ℕ) → length xs + length ys ≤ m → length (xs ++ ys) ≤ m
 joined_within xs ys m h = omega (arith, length-append xs ys)
-
-pub capped : (n m : ℕ) → min n m ≤ m
-capped n m = omega arith

@@ -1,22 +1,16 @@
 -- Stretches of a list, clipped to it, and lists that grow by one.
 use Rattle.std.proofs.Common.{◌≡◌, ℕ, zero, suc, ◌+◌, ◌-◌, ◌<◌, ◌≤◌, min, List, [], ◌∷◌, ◌++◌, length, take, drop, set, Some, None, sym, ap, ◌∙◌, ⊎_elim, append-nil, arith, length-append, length-drop, drop_of_length-le, take_all, take_at, drop_at}
 use Rattle.std.specs.List.{slice_get}
-use Rattle.std.proofs.lemmas.List.{drop-drop}
+use Rattle.std.proofs.lemmas.List.{take_min, drop_min, drop-drop}
 use Rattle.std.proofs.lemmas.Bool.{cases_lt}
 use Rattle.matrix.specs.Matrix.{over}
 
 -- no more than a list has
 pub take_clipped : {X : Type 0} (ys : List X) (n k : ℕ) → k ≡ min n (length ys) → take k ys ≡ take n ys
-take_clipped ys n k e = ⊎_elim
-    (λ (h : n < length ys). ap (λ j. take j ys) (let z : k ≡ n = omega arith in z))
-    (λ (h : length ys ≤ n). take_all k ys (omega arith) ∙ sym (take_all n ys h))
-    (cases_lt n (length ys))
+take_clipped ys n k e = ap (λ j. take j ys) e ∙ take_min n ys
 
 pub drop_clipped : {X : Type 0} (ys : List X) (n k : ℕ) → k ≡ min n (length ys) → drop k ys ≡ drop n ys
-drop_clipped ys n k e = ⊎_elim
-    (λ (h : n < length ys). ap (λ j. drop j ys) (let z : k ≡ n = omega arith in z))
-    (λ (h : length ys ≤ n). drop_of_length-le ys {i = k} (omega arith) ∙ sym (drop_of_length-le ys h))
-    (cases_lt n (length ys))
+drop_clipped ys n k e = ap (λ j. drop j ys) e ∙ drop_min n ys
 
 -- n cells from `from` on, found by numbers that stay within the list
 module _ {X : Type 0} (xs : List X) (from n f k : ℕ) (ef : f ≡ min from (length xs)) (ek : k ≡ min n (length xs - f)) where

@@ -1,6 +1,5 @@
 -- What is undone: an insertion by a removal, a removal by an insertion, a flip by itself.
 use Rattle.std.proofs.Common.{◌≡◌, ℕ, zero, suc, ◌-◌, ◌<◌, ◌≤◌, List, [], ◌∷◌, length, Some, Option, sym, refl, ap, ◌∙◌, ⊎_elim, arith}
-use mathlib.Core.Path.{fun_ext}
 use Rattle.std.specs.List.{slice_get}
 use Rattle.std.proofs.lemmas.Bool.Decides.{nat_tests}
 use Rattle.std.proofs.lemmas.Bool.{cases_order, cases_lt}
@@ -15,8 +14,11 @@ pub listed_nth : {T : Type 0} (xs : List T) → listed (length xs) (slice_get xs
 listed_nth [] = refl
 listed_nth (x ∷ xs) = ap (λ ys. x ∷ ys) (listed_nth xs)
 
-pub listed_same : {T : Type 0} (n : ℕ) (f g : ℕ → Option T) → ((k : ℕ) → f k ≡ g k) → listed n f ≡ listed n g
-listed_same {T} n f g h = ap (λ (q : ℕ → Option T). listed n q) (fun_ext h)
+pub listed_within : {T : Type 0} (n : ℕ) (f g : ℕ → Option T) → ((k : ℕ) → k < n → f k ≡ g k) → listed n f ≡ listed n g
+listed_within zero f g h = refl
+listed_within (suc n) f g h =
+    ap (λ o. before o (listed n (λ k. f (suc k)))) (h 0 (omega arith))
+    ∙ ap (before (g 0)) (listed_within n (λ k. f (suc k)) (λ k. g (suc k)) (λ k l. h (suc k) (omega arith)))
 
 -- n cells that are there make a list of n
 module _ {T : Type 0} where
@@ -44,7 +46,7 @@ remove_insert i line m s fits =
     same_matrix _ m (omega arith) (grind (arith, nat_tests)) (λ r c. spliced_skipped i _ (λ k. m.cell k c) r)
 
 pub row_insert : {T : Type 0} (i : ℕ) (line : List T) (m : Matrix T) → row i (insert_row i line m) ≡ line
-row_insert i line m = listed_same (length line) _ (slice_get line) (λ c. spliced_at i (slice_get line c) (λ k. m.cell k c) i refl) ∙ listed_nth line
+row_insert i line m = listed_within (length line) _ (slice_get line) (λ c h. spliced_at i (slice_get line c) (λ k. m.cell k c) i refl) ∙ listed_nth line
 
 pub row_length : {T : Type 0} (i : ℕ) (m : Matrix T) → Shaped m → i < m.rows → length (row i m) ≡ m.cols
 row_length i m s h = listed_length m.cols (λ c. m.cell i c) (λ c l. s.full i c h l)

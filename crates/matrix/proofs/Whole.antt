@@ -1,10 +1,10 @@
 -- When two matrices are one, and when flat cells are a matrix.
-use Rattle.std.proofs.Common.{◌≡◌, ℕ, ◌+◌, ◌-◌, ◌*◌, ◌<◌, ◌≤◌, List, length, None, Option, sym, ◌∙◌, ⊎_elim, arith}
+use Rattle.std.proofs.Common.{◌≡◌, ℕ, ◌+◌, ◌-◌, ◌*◌, ◌<◌, ◌≤◌, List, length, Some, None, Option, sym, ◌∙◌, ⊎_elim, arith}
 use Rattle.std.specs.List.{slice_get}
 use Rattle.std.proofs.lemmas.Bool.Decides.{nat_tests}
 use Rattle.std.proofs.lemmas.Bool.{cases_order, cases_lt, cases_eq}
-use Rattle.std.proofs.lemmas.Option.{slice_get_past}
-use Rattle.matrix.specs.Matrix.{Matrix, Shaped, inside, turned, insert_row, insert_col, remove_row, remove_col, flip_rows, flip_cols, rotate_half, skipped, left_across}
+use Rattle.std.proofs.lemmas.Option.{none-some, slice_get_past}
+use Rattle.matrix.specs.Matrix.{Matrix, Shaped, inside, turned, insert_row, insert_col, remove_row, remove_col, flip_rows, rotate_half, skipped, left_across}
 use Rattle.matrix.specs.Shapes.{rowwise}
 use Rattle.matrix.proofs.Cells.{spliced_below, spliced_at, spliced_above, skipped_above}
 
@@ -22,6 +22,16 @@ module _ {T : Type 0} (R C r c : ℕ) (x : Option T) where
   pub inside_right : C ≤ c → inside R C r c x ≡ None
   inside_right h = grind (arith, nat_tests)
 
+-- a number that is there stands inside
+pub inside_some : (R C r c y k : ℕ) → inside R C r c (Some y) ≡ Some k → (r < R) × (c < C) × (k ≡ y)
+inside_some R C r c y k e = ⊎_elim
+    (λ (hr : r < R). ⊎_elim
+    (λ (hc : c < C). let z : Some y ≡ Some k = sym (inside_in R C r c (Some y) hr hc) ∙ e in (hr, hc, cc))
+    (λ (hc : C ≤ c). absurd (none-some k (sym (inside_right R C r c (Some y) hc) ∙ e)))
+    (cases_lt c C))
+    (λ (hr : R ≤ r). absurd (none-some k (sym (inside_below R C r c (Some y) hr) ∙ e)))
+    (cases_lt r R)
+
 -- nothing outside its size
 pub record Whole {T : Type 0} (m : Matrix T) : Type 0 where
   pub below : (r c : ℕ) → m.rows ≤ r → m.cell r c ≡ None
@@ -30,11 +40,12 @@ pub record Whole {T : Type 0} (m : Matrix T) : Type 0 where
 pub whole_shaped : {T : Type 0} {m : Matrix T} → Shaped m → Whole m
 whole_shaped s = record { below = s.below; right = s.right }
 
+-- cells that stand inside a size alone
+pub whole_inside : {T : Type 0} (R C : ℕ) (f : ℕ → ℕ → Option T) → Whole (record { rows = R; cols = C; cell = λ r c. inside R C r c (f r c) })
+whole_inside R C f = record { below = λ r c h. inside_below R C r c (f r c) h; right = λ r c h. inside_right R C r c (f r c) h }
+
 pub whole_rowwise : {T : Type 0} (R C : ℕ) (xs : List T) → Whole (rowwise R C xs)
-whole_rowwise R C xs = record {
-  below = λ r c h. inside_below R C r c (slice_get xs (r * C + c)) h;
-  right = λ r c h. inside_right R C r c (slice_get xs (r * C + c)) h;
-}
+whole_rowwise R C xs = whole_inside R C (λ r c. slice_get xs (r * C + c))
 
 pub whole_turned : {T : Type 0} {m : Matrix T} → Whole m → Whole (turned m)
 whole_turned w = record { below = λ r c h. w.right c r h; right = λ r c h. w.below c r h }
@@ -106,11 +117,5 @@ whole_flip_rows m w = record {
       (cases_lt r m.rows);
 }
 
-pub whole_flip_cols : {T : Type 0} (m : Matrix T) → Whole m → Whole (flip_cols m)
-whole_flip_cols m w = whole_turned (whole_flip_rows (turned m) (whole_turned w))
-
 pub whole_rotate_half : {T : Type 0} (m : Matrix T) → Whole (rotate_half m)
-whole_rotate_half m = record {
-  below = λ r c h. inside_below m.rows m.cols r c (m.cell (m.rows - 1 - r) (m.cols - 1 - c)) h;
-  right = λ r c h. inside_right m.rows m.cols r c (m.cell (m.rows - 1 - r) (m.cols - 1 - c)) h;
-}
+whole_rotate_half m = whole_inside m.rows m.cols (λ r c. m.cell (m.rows - 1 - r) (m.cols - 1 - c))

@@ -13,6 +13,16 @@ abbrev pub other : Axis → Axis
 other Row = Col
 other Col = Row
 
+-- the axis that one is beneath, where the rows are lines along `facing`
+abbrev pub beneath : Axis → Axis → Axis
+beneath Row ax = ax
+beneath Col ax = other ax
+
+-- of a row's and a column's, the one along the axis first
+abbrev pub pair : {A : Type 0} → Axis → A → A → A × A
+pair Row a b = (a, b)
+pair Col a b = (b, a)
+
 abbrev pub along : {T : Type 0} → Axis → Matrix T → Matrix T
 along Row m = m
 along Col m = turned m

@@ -1,5 +1,6 @@
-// Which refusal a line meets: the one check of every board, on numbers alone.
+// Which refusal a line meets, and what a line that goes leaves: what every board checks, on numbers alone.
 ghost use Rattle.std.specs.Prelude.{◌≡◌};
+ghost use Rattle.matrix.specs.Matrix.{left_across};
 ghost use Rattle.matrix.specs.Rules.{insert_answer, remove_answer};
 
 use crate::limits::Limits;
@@ -45,4 +46,11 @@ pub fn remove_check(i: usize, n: usize, count: usize, across: usize) -> Result<(
         return Err(Refusal::Short);
     }
     Ok(())
+}
+
+// How long the lines across are when one of `lines` has gone: a board without lines has none across.
+pub fn left_across(lines: usize, across: usize) -> usize
+    ensures answer { result ≡ left_across lines across }
+{
+    if lines == 1 { 0 } else { across }
 }

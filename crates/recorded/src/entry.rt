@@ -2,10 +2,9 @@
 use matrix::axis::Axis;
 use matrix::shape::Order;
 
-// A call that begins a fresh grid.
+// A call that begins a fresh grid. `new` is `init` with the blank of these cells, which is 0: no line of it has a third number.
 #[derive(Drop)]
 pub enum Making {
-    New(usize, usize),
     Init(usize, usize, u32),
     FromVec(usize, Vec<u32>),
 }
@@ -46,8 +45,11 @@ pub enum Answer {
     Cell(Option<u32>),
     Said(bool),
     Size(usize, usize),
+    // kept: these two are answers that the list never has, so that one comparison finds them, and an error would need a second.
     // No answer of the original's: a call wrote beyond the line that it handed out.
     Overrun,
+    // No answer of a call: a cell or a size in the list with more or fewer numbers.
+    Garbled,
 }
 
 // A grid after a call: its order, its size and what into_vec gives.

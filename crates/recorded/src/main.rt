@@ -7,9 +7,9 @@ use std::alloc::Global;
 use std::io;
 
 mod entry;
+mod name;
 mod reading;
 mod replay;
-mod unread;
 
 fn entries(heap: Global, text: &str) -> anyhow::Result<Vec<Entry>> {
     let mut all = Vec::new(heap);

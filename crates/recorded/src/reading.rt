@@ -1,147 +1,179 @@
-// Reading a line, part by part.
+// Reading a line, word by word. A number that is left out is 0, and one too many is passed over.
 use crate::entry::{After, Answer, Call, Entry, Making, Panicked, Step};
-use crate::unread::{Fault, Unread};
-use matrix::axis::Axis;
+use crate::name::{Name, Said};
 use matrix::shape::Order;
-use std::alloc::{AllocError, Global};
+use std::alloc::Global;
+
+// The parts of a line, as they follow one another.
+#[derive(Clone, Copy)]
+enum Part {
+    Head,
+    Line,
+    Answer,
+    After,
+    Flat,
+}
+
+impl Part {
+    // The part that a mark begins, after this one.
+    fn marked(self, word: &str) -> Option<Part> {
+        match (word, self) {
+            (":", _) => Some(Part::Line),
+            ("=>", _) => Some(Part::Answer),
+            (";", Part::Answer) => Some(Part::After),
+            (";", _) => Some(Part::Flat),
+            _ => None,
+        }
+    }
+}
+
+// What the words of a line have said so far.
+// kept: numbers in lists until all words are read, since a name, an order and numbers come in any order, and any of them can be
+// left out
+#[derive(Drop)]
+struct Reader {
+    name: Name,
+    order: Order,
+    numbers: Vec<usize>,
+    line: Vec<u32>,
+    said: Said,
+    told: Vec<u32>,
+    after: Order,
+    sides: Vec<usize>,
+    flat: Vec<u32>,
+}
 
 impl Entry {
     // Reads the line of that number.
-    pub fn read(heap: Global, number: usize, text: &str) -> Result<Entry, Unread> {
-        read_entry(heap, number, text).map_err(|fault| Unread {
-            line: number,
-            fault,
-        })
+    pub fn read(heap: Global, number: usize, text: &str) -> anyhow::Result<Entry> {
+        let mut reader = Reader::new(heap);
+        let mut part = Part::Head;
+        for word in text.split_whitespace() {
+            match part.marked(word) {
+                Some(next) => part = next,
+                None => reader.take(part, word)?,
+            }
+        }
+        Ok(reader.entry(number))
     }
 }
 
-fn read_entry(heap: Global, number: usize, text: &str) -> Result<Entry, Fault> {
-    let (call, rest) = text.split_once("=>").ok_or(Fault::Mark)?;
-    let (answer, rest) = rest.split_once(';').ok_or(Fault::Mark)?;
-    let (after, flat) = rest.split_once(';').ok_or(Fault::Mark)?;
-    let flat = numbers(heap, words(heap, flat)?.as_slice())?;
-    Ok(Entry {
-        number,
-        step: read_step(heap, words(heap, call)?.as_slice())?,
-        answer: read_answer(heap, words(heap, answer)?.as_slice())?,
-        after: read_after(words(heap, after)?.as_slice(), flat)?,
-    })
-}
-
-fn words<'a>(heap: Global, text: &'a str) -> Result<Vec<&'a str>, AllocError> {
-    text.split_whitespace().collect::<Vec<&'a str>>(heap)
-}
-
-fn numbers(heap: Global, words: &[&str]) -> Result<Vec<u32>, Fault> {
-    let mut all = Vec::new(heap);
-    for word in words {
-        all.push(word.parse::<u32>()?)?;
+impl Reader {
+    // What is not said is so.
+    fn new(heap: Global) -> Reader {
+        Reader {
+            name: Name::Size,
+            order: Order::RowMajor,
+            numbers: Vec::new(heap),
+            line: Vec::new(heap),
+            said: Said::Done,
+            told: Vec::new(heap),
+            after: Order::RowMajor,
+            sides: Vec::new(heap),
+            flat: Vec::new(heap),
+        }
     }
-    Ok(all)
+
+    // One word more. Of names and of orders the last counts.
+    fn take(&mut self, part: Part, word: &str) -> anyhow::Result<()> {
+        match part {
+            Part::Head => match (word.parse::<Name>(), order(word)) {
+                (Ok(name), _) => self.name = name,
+                (Err(_), Some(order)) => self.order = order,
+                (Err(_), None) => self.numbers.push(word.parse::<usize>()?)?,
+            },
+            Part::Line => self.line.push(word.parse::<u32>()?)?,
+            Part::Answer => match word.parse::<Said>() {
+                Ok(said) => self.said = said,
+                Err(_) => self.told.push(word.parse::<u32>()?)?,
+            },
+            Part::After => match order(word) {
+                Some(order) => self.after = order,
+                None => self.sides.push(word.parse::<usize>()?)?,
+            },
+            Part::Flat => self.flat.push(word.parse::<u32>()?)?,
+        }
+        Ok(())
+    }
+
+    // The line, when all its words are read.
+    fn entry(self, number: usize) -> Entry {
+        let Reader {
+            name,
+            order,
+            numbers,
+            line,
+            said,
+            told,
+            after,
+            sides,
+            flat,
+        } = self;
+        Entry {
+            number,
+            step: step(name, order, numbers.as_slice(), line),
+            answer: answer(said, told),
+            after: After {
+                order: after,
+                rows: nth(sides.as_slice(), 0),
+                cols: nth(sides.as_slice(), 1),
+                flat,
+            },
+        }
+    }
+}
+
+// The step of that name. Its numbers are indices or sizes, and the third is a cell, or 0 where it is none.
+fn step(name: Name, order: Order, numbers: &[usize], line: Vec<u32>) -> Step {
+    let i = nth(numbers, 0);
+    let j = nth(numbers, 1);
+    let x = u32::try_from(nth(numbers, 2)).unwrap_or(0);
+    match name {
+        Name::New | Name::Init => Step::Begin(order, Making::Init(i, j, x)),
+        Name::FromVec => Step::Begin(order, Making::FromVec(i, line)),
+        Name::Insert(axis) => Step::Call(Call::Insert(axis, i, line)),
+        Name::Push(axis) => Step::Call(Call::Push(axis, line)),
+        Name::Remove(axis) => Step::Call(Call::Remove(axis, i)),
+        Name::Pop(axis) => Step::Call(Call::Pop(axis)),
+        Name::Delete(axis) => Step::Call(Call::Delete(axis, i)),
+        Name::Flip(axis) => Step::Call(Call::Flip(axis)),
+        Name::Transpose => Step::Call(Call::Transpose),
+        Name::RotateLeft => Step::Call(Call::RotateLeft),
+        Name::RotateRight => Step::Call(Call::RotateRight),
+        Name::RotateHalf => Step::Call(Call::RotateHalf),
+        Name::Put => Step::Call(Call::Put(i, j, x)),
+        Name::Get => Step::Call(Call::Get(i, j)),
+        Name::IsEmpty => Step::Call(Call::IsEmpty),
+        Name::Size => Step::Call(Call::Size),
+    }
 }
 
 // kept: a FromStr of Order would stand in matrix, and these are the list's words; it is no plainer there.
-fn read_order(word: &str) -> Result<Order, Fault> {
+fn order(word: &str) -> Option<Order> {
     match word {
-        "row-major" => Ok(Order::RowMajor),
-        "column-major" => Ok(Order::ColumnMajor),
-        _ => Err(Fault::Order),
+        "row-major" => Some(Order::RowMajor),
+        "column-major" => Some(Order::ColumnMajor),
+        _ => None,
     }
 }
 
-// The lines that a call's name ends in.
-// kept: a FromStr of Axis would stand in matrix, and these are the list's words; it is no plainer there.
-fn read_axis(lines: &str) -> Result<Axis, Fault> {
-    match lines {
-        "row" | "rows" => Ok(Axis::Row),
-        "col" | "cols" => Ok(Axis::Col),
-        _ => Err(Fault::Call),
+// The answer of that word and those numbers. A cell is one number, and a size is two.
+fn answer(said: Said, told: Vec<u32>) -> Answer {
+    match (said, told.as_slice()) {
+        (Said::Done, _) => Answer::Done(Ok(())),
+        (Said::Panic, _) => Answer::Done(Err(Panicked)),
+        (Said::Nothing, _) => Answer::Line(None),
+        (Said::Line, _) => Answer::Line(Some(told)),
+        (Said::Absent, _) => Answer::Cell(None),
+        (Said::Cell, [x]) => Answer::Cell(Some(*x)),
+        (Said::True, _) => Answer::Said(true),
+        (Said::False, _) => Answer::Said(false),
+        (Said::Size, [rows, cols]) => Answer::Size(*rows as usize, *cols as usize),
+        (Said::Cell | Said::Size, _) => Answer::Garbled,
     }
 }
 
-fn read_step(heap: Global, words: &[&str]) -> Result<Step, Fault> {
-    match words {
-        ["new", order, rows, cols] => Ok(Step::Begin(
-            read_order(order)?,
-            Making::New(rows.parse::<usize>()?, cols.parse::<usize>()?),
-        )),
-        ["init", order, rows, cols, x] => Ok(Step::Begin(
-            read_order(order)?,
-            Making::Init(
-                rows.parse::<usize>()?,
-                cols.parse::<usize>()?,
-                x.parse::<u32>()?,
-            ),
-        )),
-        ["from-vec", order, cols, ":", cells @ ..] => Ok(Step::Begin(
-            read_order(order)?,
-            Making::FromVec(cols.parse::<usize>()?, numbers(heap, cells)?),
-        )),
-        _ => Ok(Step::Call(read_call(heap, words)?)),
-    }
-}
-
-fn read_call(heap: Global, words: &[&str]) -> Result<Call, Fault> {
-    match words {
-        ["transpose"] => Ok(Call::Transpose),
-        ["rotate-left"] => Ok(Call::RotateLeft),
-        ["rotate-right"] => Ok(Call::RotateRight),
-        ["rotate-half"] => Ok(Call::RotateHalf),
-        ["put", r, c, x] => Ok(Call::Put(
-            r.parse::<usize>()?,
-            c.parse::<usize>()?,
-            x.parse::<u32>()?,
-        )),
-        ["get", r, c] => Ok(Call::Get(r.parse::<usize>()?, c.parse::<usize>()?)),
-        ["is-empty"] => Ok(Call::IsEmpty),
-        ["size"] => Ok(Call::Size),
-        [name, rest @ ..] => read_lines_call(heap, name, rest),
-        [] => Err(Fault::Call),
-    }
-}
-
-// A call whose name ends in its lines, as insert-row.
-fn read_lines_call(heap: Global, name: &str, rest: &[&str]) -> Result<Call, Fault> {
-    let (name, lines) = name.split_once('-').ok_or(Fault::Call)?;
-    let axis = read_axis(lines)?;
-    match (name, rest) {
-        ("insert", [i, ":", line @ ..]) => Ok(Call::Insert(
-            axis,
-            i.parse::<usize>()?,
-            numbers(heap, line)?,
-        )),
-        ("push", [":", line @ ..]) => Ok(Call::Push(axis, numbers(heap, line)?)),
-        ("remove", [i]) => Ok(Call::Remove(axis, i.parse::<usize>()?)),
-        ("pop", []) => Ok(Call::Pop(axis)),
-        ("delete", [i]) => Ok(Call::Delete(axis, i.parse::<usize>()?)),
-        ("flip", []) => Ok(Call::Flip(axis)),
-        _ => Err(Fault::Call),
-    }
-}
-
-fn read_answer(heap: Global, words: &[&str]) -> Result<Answer, Fault> {
-    match words {
-        ["ok"] => Ok(Answer::Done(Ok(()))),
-        ["panic"] => Ok(Answer::Done(Err(Panicked))),
-        ["none"] => Ok(Answer::Line(None)),
-        ["line", cells @ ..] => Ok(Answer::Line(Some(numbers(heap, cells)?))),
-        ["absent"] => Ok(Answer::Cell(None)),
-        ["cell", x] => Ok(Answer::Cell(Some(x.parse::<u32>()?))),
-        ["true"] => Ok(Answer::Said(true)),
-        ["false"] => Ok(Answer::Said(false)),
-        ["size", rows, cols] => Ok(Answer::Size(rows.parse::<usize>()?, cols.parse::<usize>()?)),
-        _ => Err(Fault::Answer),
-    }
-}
-
-fn read_after(words: &[&str], flat: Vec<u32>) -> Result<After, Fault> {
-    match words {
-        [order, rows, cols] => Ok(After {
-            order: read_order(order)?,
-            rows: rows.parse::<usize>()?,
-            cols: cols.parse::<usize>()?,
-            flat,
-        }),
-        _ => Err(Fault::After),
-    }
+// The number at that place, and 0 where there is none.
+fn nth(numbers: &[usize], at: usize) -> usize {
+    numbers.get(at).copied().unwrap_or(0)
 }

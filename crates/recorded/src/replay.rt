@@ -136,16 +136,14 @@ fn run_block(
 
 fn may_make(memory: usize, making: &Making) -> Result<(), Refusal> {
     match making {
-        Making::New(rows, cols) => new_check(memory, *rows, *cols),
         Making::Init(rows, cols, _) => new_check(memory, *rows, *cols),
         Making::FromVec(cols, cells) => from_vec_check(memory, cells.len(), *cols),
     }
 }
 
-// The grid of the call. The blank of these cells is 0.
+// The grid of the call.
 fn make<'a>(memory: &'a mut [u32], order: Order, making: &Making) -> Grid<'a, u32> {
     match making {
-        Making::New(rows, cols) => Grid::init_with_order(memory, *rows, *cols, order, 0),
         Making::Init(rows, cols, x) => Grid::init_with_order(memory, *rows, *cols, order, *x),
         Making::FromVec(cols, cells) => {
             let n = cells.len();
@@ -158,7 +156,8 @@ fn make<'a>(memory: &'a mut [u32], order: Order, making: &Making) -> Grid<'a, u3
 }
 
 // Makes the call, and says what it answered.
-// kept: rows and columns each have their call, since the list names the original's calls and these have the same names.
+// kept: rows and columns apart, since what is compared are the calls that bear the original's names; one along an axis would
+// leave them untried
 fn made(heap: Global, grid: &mut Grid<'_, u32>, call: &Call) -> Result<Answer, AllocError> {
     let (rows, cols) = grid.size();
     Ok(match call {
@@ -236,6 +235,7 @@ fn stands(grid: &Grid<'_, u32>, after: &After) -> bool {
 
 // Rows and columns as flat cells lie, lines first, or back again.
 fn lying(order: Order, (rows, cols): (usize, usize)) -> (usize, usize) {
+    // kept: a pair of two numbers or the same turned, and no step to run; `Axis::pair` would need an axis of the order first
     match order {
         Order::RowMajor => (rows, cols),
         Order::ColumnMajor => (cols, rows),

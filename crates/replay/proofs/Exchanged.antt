@@ -11,11 +11,12 @@ use Rattle.sheet.specs.declared.edit.Edit.{Edit}
 use Rattle.sheet.specs.declared.edit.Edit.TheVariants as edit
 use Rattle.matrix.specs.Axes.{other, inserted, removed, line_of, flipped, insert_along, remove_along}
 use Rattle.sheet.specs.Book.{Book, Entry, owed_limit, kept, then, full, lacks, entered, alone, by_newest, span, handed_back, struck, settle, put_said, put_book, insert_said, insert_book, remove_said, remove_book, remove_memory, plain_said, transpose_book, flip_book, back_said, back_book, back_memory}
+use Rattle.flat.specs.Segments.{part, patched}
 use Rattle.replay.specs.declared.call.Call.{Call}
 use Rattle.replay.specs.declared.call.Call.TheVariants.{Put, Insert, Remove, Transpose, Flip, StepBack, Publish, Reopen, Get, Size, Owed, Kept, Settled}
 use Rattle.replay.specs.declared.call.Answer.{Answer}
 use Rattle.replay.specs.declared.call.Answer.TheVariants.{Said, Count, Moved, Lacking}
-use Rattle.replay.specs.World.{World, part, patched, by_stage, edited, open_only, next, reply, after, replies}
+use Rattle.replay.specs.World.{World, by_stage, edited, open_only, next, reply, after, replies}
 use Rattle.replay.specs.Laws.{exchange, exchanged, other_edit, turned_entry, turned_entries, turned_book, turned_world}
 
 or_comm : (x y : Bool) → (x || y) ≡ (y || x)

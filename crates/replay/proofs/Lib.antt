@@ -1,4 +1,3 @@
-pub mod Segments
 pub mod Worlds
 pub mod Runs
 pub mod Exchanged

@@ -9,10 +9,11 @@ use Rattle.sheet.specs.declared.edit.Edit.TheVariants.{Put, Insert, Remove, Tran
 use Rattle.matrix.specs.Axes.{along}
 use Rattle.sheet.specs.Book.{Entry, by_newest, struck, span, handed_back, back_said, back_book, back_memory}
 use Rattle.sheet.specs.Stands.{Undoable, Past}
-use Rattle.replay.specs.declared.call.Segment.{Segment}
+use Rattle.flat.specs.declared.segment.Segment.{Segment}
+use Rattle.flat.specs.Segments.{part, patched}
 use Rattle.replay.specs.declared.call.Call.TheVariants.{StepBack}
 use Rattle.replay.specs.declared.call.Answer.TheVariants.{Said}
-use Rattle.replay.specs.World.{World, Firm, part, patched, next, reply, after, replies}
+use Rattle.replay.specs.World.{World, Firm, next, reply, after, replies}
 use Rattle.replay.specs.Laws.{earlier, Ample, steps, all_done}
 use Rattle.replay.proofs.Worlds.{edited_is, said_open}
 

@@ -4,8 +4,8 @@ use lib.Seq.{take-append-le}
 use Rattle.std.specs.List.{slice_get}
 use Rattle.std.proofs.lemmas.Bool.{cases_lt}
 use Rattle.matrix.specs.Matrix.{over}
-use Rattle.matrix.proofs.Stretches.{take_one_more, over_one_more}
-use Rattle.matrix.proofs.Runs.{after_append, replies_append, replies_length}
+use Rattle.matrix.proofs.Stretches.{take_one_more}
+use Rattle.matrix.proofs.Longer.{after_one_more, said_one_more, take_past}
 use Rattle.boards.specs.declared.board.Board.{Ghosts as Board}
 use Rattle.keeps.specs.declared.keep.Keep.{Ghosts as Keep}
 use Rattle.sheet.specs.declared.sheets.PublishedSheet.{PublishedSheet}
@@ -43,9 +43,7 @@ module _ {B K T : Type 0} (as_board : Board B T) (as_keep : Keep K T) where
     ran_more i state old a memory was answers c e hc hb s len ran = record {
       stands = stands;
       memory_is = memory_is;
-      answers_are = ap (λ z. set z i a) ran.answers_are ∙ over_one_more (replies pool (take i calls) w) before i a (sym (replies_length (next pool) (reply pool) (take i calls) w ∙ long)) hb
-          ∙ ap (λ z. over (replies pool (take i calls) w ++ (z ∷ [])) before) s.answer
-          ∙ ap (λ z. over z before) (sym (replies_append (next pool) (reply pool) (take i calls) (c ∷ []) w) ∙ ap (λ z. replies pool z w) (sym more));
+      answers_are = ap (λ z. set z i a) ran.answers_are ∙ ap (set (over (replies pool (take i calls) w) before) i) s.answer ∙ said_one_more (next pool) (reply pool) calls i c e w before hc hb;
       firm = λ k. ⊎_elim
           (λ (h : k < i + 1). subst (λ z. Firm (length w.memory) (after pool z w)) (sym (ap (take k) more ∙ take-append-le k (take i calls) (c ∷ []) (omega (arith, long)))) (ran.firm k))
           (λ (h : i + 1 ≤ k). subst (λ z. Firm (length w.memory) (after pool z w)) (sym (take_all k (take (i + 1) calls) (omega (arith, length-take-le (i + 1) calls (omega arith))))) (holds_firm (length w.memory) state _ stands (sym (ap length memory_is) ∙ len)))
@@ -59,10 +57,20 @@ module _ {B K T : Type 0} (as_board : Board B T) (as_keep : Keep K T) where
         more = take_one_more calls i c e
 
         world : next pool c (after pool (take i calls) w) ≡ after pool (take (i + 1) calls) w
-        world = sym (after_append (next pool) (reply pool) (take i calls) (c ∷ []) w) ∙ ap (λ z. after pool z w) (sym more)
+        world = after_one_more (next pool) (reply pool) calls i c e w
 
         stands : Holds as_board as_keep state (after pool (take (i + 1) calls) w)
         stands = subst (λ z. Holds as_board as_keep state z) world s.stands
 
         memory_is : memory ≡ (after pool (take (i + 1) calls) w).memory
         memory_is = s.memory_is ∙ ap (λ z. z.memory) world
+
+    -- no calls are left
+    pub ran_past : (k : ℕ) (state : State B K) (memory : List T) (answers : List (Answer T)) → length calls ≤ k → Ran as_board as_keep state memory before answers pool (take k calls) w
+        → Ran as_board as_keep state memory before answers pool (take (k + 1) calls) w
+    ran_past k state memory answers h ran = subst (λ z. Ran as_board as_keep state memory before answers pool z w) (take_past calls k h) ran
+
+    -- the same of a sheet, a memory and answers that are these
+    pub ran_by : (made : List (Call T)) {s s' : State B K} {m m' : List T} {rs rs' : List (Answer T)} → s' ≡ s → m' ≡ m → rs' ≡ rs → Ran as_board as_keep s m before rs pool made w → Ran as_board as_keep s' m' before rs' pool made w
+    ran_by made {s} {s'} {m} {m'} {rs} {rs'} es em er h =
+        subst (λ z. Ran as_board as_keep z m' before rs' pool made w) (sym es) (subst (λ z. Ran as_board as_keep s z before rs' pool made w) (sym em) (subst (λ z. Ran as_board as_keep s m before z pool made w) (sym er) h))

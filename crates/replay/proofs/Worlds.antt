@@ -1,19 +1,21 @@
 -- One call in a world: what it leaves on an open sheet, and on a published one.
-use Rattle.std.proofs.Common.{◌≡◌, ℕ, ◌⊎◌, List, Some, None, Result, sym, refl, ap, ◌∙◌, subst, ⊎_elim}
+use Rattle.std.proofs.Common.{◌≡◌, ℕ, ◌+◌, ◌-◌, min, ◌⊎◌, List, ◌++◌, length, take, drop, Some, None, Result, sym, refl, ap, ◌∙◌, subst, ⊎_elim}
 use Rattle.boards.specs.declared.board.Board.{Ghosts as Board}
 use Rattle.keeps.specs.declared.keep.Keep.{Ghosts as Keep}
 use Rattle.sheet.specs.declared.sheets.OpenSheet.{OpenSheet}
 use Rattle.sheet.specs.Book.{Book}
 use Rattle.sheet.specs.Sheets.{Stands}
 use Rattle.cells.specs.declared.refusal.Refusal.{Refusal}
-use Rattle.replay.specs.declared.call.Segment.{Segment}
+use Rattle.flat.specs.declared.segment.Segment.{Segment}
+use Rattle.flat.specs.Segments.{part, patched}
+use Rattle.flat.proofs.Segments.{part_is, patched_is}
 use Rattle.replay.specs.declared.call.Call.{Call}
 use Rattle.replay.specs.declared.call.Call.TheVariants.{Put, Insert, Remove, Transpose, Flip, StepBack, Publish, Reopen, Get, Size, Owed, Kept, Settled}
 use Rattle.replay.specs.declared.call.Answer.{Answer}
 use Rattle.replay.specs.declared.call.Answer.TheVariants.{Said, Count, Moved, Lacking}
 use Rattle.replay.specs.declared.call.State.{State}
 use Rattle.replay.specs.declared.call.State.TheVariants.{Open}
-use Rattle.replay.specs.World.{World, Holds, Steps, part, patched, by_stage, edited, open_only, next, reply}
+use Rattle.replay.specs.World.{World, Holds, Steps, by_stage, edited, open_only, next, reply}
 
 module _ {T : Type 0} (w : World T) (st : w.stage ≡ None) where
   pub edited_is : (b : Book T) (memory : List T) → edited w b memory ≡ record { book = b; stage = None; memory = memory }
@@ -36,16 +38,18 @@ module _ {B K T : Type 0} (as_board : Board B T) (as_keep : Keep K T) (s : OpenS
   pub edit_steps : (b : Book T) → next pool call w ≡ edited w b memory → reply pool call w ≡ open_only w a → Stands as_board as_keep s b → Steps as_board as_keep (Open s) a memory pool call w
   edit_steps b world said h = steps_to as_board as_keep (Open s) a memory pool call w (record { book = b; stage = None; memory = memory }) (world ∙ edited_is w st b memory) (said ∙ sym (said_open w st a)) (refl, h) refl
 
--- An edit that is handed a segment of the memory: on the cells xs of the segment the book answers as `said` says, goes on as
--- `book` says and leaves them as `left` says.
-module _ {B K T : Type 0} (as_board : Board B T) (as_keep : Keep K T) (s : OpenSheet B K) (r : Result Unit Refusal) (old memory pool : List T) (call : Call T) (w : World T) (st : w.stage ≡ None) (m : w.memory ≡ old)
-    (said : List T → Book T → Result Unit Refusal) (book : List T → Book T → Book T) (left : List T → Book T → List T) (g : Segment) where
+-- An edit that is handed a segment of the memory, which lies from `a` to `e`: on its cells the book answers as `said` says, goes
+-- on as `book` says and leaves them as `left` says.
+module _ {B K T : Type 0} (as_board : Board B T) (as_keep : Keep K T) (s : OpenSheet B K) (r : Result Unit Refusal) (old pool : List T) (call : Call T) (w : World T) (st : w.stage ≡ None) (m : w.memory ≡ old)
+    (said : List T → Book T → Result Unit Refusal) (book : List T → Book T → Book T) (left : List T → Book T → List T) (g : Segment) (a e : ℕ) (a_is : a ≡ min g.start (length old)) (e_is : e ≡ a + min g.len (length old - a)) where
   pub lent_steps : next pool call w ≡ edited w (book (part w.memory g) w.book) (patched w.memory g (left (part w.memory g) w.book)) → reply pool call w ≡ open_only w (Said (said (part w.memory g) w.book))
-      → (xs ys : List T) → xs ≡ part old g → memory ≡ patched old g ys → (r ≡ said xs w.book) × Stands as_board as_keep s (book xs w.book) → ys ≡ left xs w.book
-      → Steps as_board as_keep (Open s) (Said r) memory pool call w
-  lent_steps world answer xs ys xs_is memory_is h ys_is =
-      let now : part w.memory g ≡ xs = ap (λ z. part z g) m ∙ sym xs_is in
-      let cells : patched w.memory g (left (part w.memory g) w.book) ≡ memory = ap (λ z. patched w.memory g (left z w.book)) now ∙ ap (patched w.memory g) (sym ys_is) ∙ ap (λ z. patched z g ys) m ∙ sym memory_is in
+      → (ys : List T) → (r ≡ said (take (e - a) (drop a old)) w.book) × Stands as_board as_keep s (book (take (e - a) (drop a old)) w.book) → ys ≡ left (take (e - a) (drop a old)) w.book
+      → Steps as_board as_keep (Open s) (Said r) (take a old ++ (ys ++ drop (e - a) (drop a old))) pool call w
+  lent_steps world answer ys h ys_is =
+      let xs = take (e - a) (drop a old) in
+      let memory = take a old ++ (ys ++ drop (e - a) (drop a old)) in
+      let now : part w.memory g ≡ xs = ap (λ z. part z g) m ∙ sym (part_is old g a e a_is e_is) in
+      let cells : patched w.memory g (left (part w.memory g) w.book) ≡ memory = ap (λ z. patched w.memory g (left z w.book)) now ∙ ap (patched w.memory g) (sym ys_is) ∙ ap (λ z. patched z g ys) m ∙ sym (patched_is old g a e a_is e_is ys) in
       edit_steps as_board as_keep s (Said r) memory pool call w st (book xs w.book)
       (world ∙ ap (λ z. edited w (book (part w.memory g) w.book) z) cells ∙ ap (λ z. edited w (book z w.book) memory) now)
       (answer ∙ ap (λ z. open_only w (Said (said z w.book))) now ∙ ap (λ z. open_only w (Said z)) (sym h.0))

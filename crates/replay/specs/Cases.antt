@@ -6,7 +6,7 @@ use Rattle.matrix.specs.Shapes.{rowwise, flat}
 use Rattle.matrix.specs.Rules.{grid_limits}
 use Rattle.matrix.specs.Cases as boards
 use Rattle.matrix.specs.declared.axis.Axis.TheVariants.{Row}
-use Rattle.replay.specs.declared.call.Segment.{Segment}
+use Rattle.flat.specs.declared.segment.Segment.{Segment}
 use Rattle.replay.specs.declared.call.Call.{Call}
 use Rattle.replay.specs.declared.call.Call.TheVariants.{Put, Remove, StepBack, Owed, Kept}
 use Rattle.replay.specs.declared.call.Answer.TheVariants.{Said, Count}

@@ -7,7 +7,7 @@ use Rattle.sheet.specs.declared.edit.Edit.{Edit}
 use Rattle.sheet.specs.declared.edit.Edit.TheVariants as edit
 use Rattle.matrix.specs.Axes.{other}
 use Rattle.sheet.specs.Book.{Book, Entry, kept}
-use Rattle.replay.specs.declared.call.Segment.{Segment}
+use Rattle.flat.specs.declared.segment.Segment.{Segment}
 use Rattle.replay.specs.declared.call.Call.{Call}
 use Rattle.replay.specs.declared.call.Call.TheVariants.{Put, Insert, Remove, Transpose, Flip, StepBack, Publish, Reopen, Get, Size, Owed, Kept, Settled}
 use Rattle.replay.specs.declared.call.Answer.{Answer}

@@ -1,14 +1,14 @@
 -- A list of a scorer's calls, run on the book.
-use Rattle.std.specs.Prelude.{◌≡◌, ℕ, ◌+◌, ◌⊎◌, List, [], ◌++◌, length, take, drop, Some, None, Option}
+use Rattle.std.specs.Prelude.{◌≡◌, ℕ, ◌⊎◌, List, [], length, take, Some, None, Option}
 use Rattle.matrix.specs.declared.limits.Limits.{Limits}
 use Rattle.matrix.specs.Matrix.{Matrix, over}
 use Rattle.matrix.specs.Runs as runs
+use Rattle.flat.specs.Segments.{part, patched}
 use Rattle.boards.specs.declared.board.Board.{Ghosts as Board}
 use Rattle.keeps.specs.declared.keep.Keep.{Ghosts as Keep}
 use Rattle.sheet.specs.Book.{Book, fresh, kept, settle, put_said, put_book, insert_said, insert_book, remove_said, remove_book, remove_memory, plain_said, transpose_book, flip_book, back_said, back_book, back_memory}
 use Rattle.sheet.specs.Stands.{Past}
 use Rattle.sheet.specs.Sheets.{Stands, Closed}
-use Rattle.replay.specs.declared.call.Segment.{Segment}
 use Rattle.replay.specs.declared.call.Call.{Call}
 use Rattle.replay.specs.declared.call.Call.TheVariants.{Put, Insert, Remove, Transpose, Flip, StepBack, Publish, Reopen, Get, Size, Owed, Kept, Settled}
 use Rattle.replay.specs.declared.call.Answer.{Answer}
@@ -28,13 +28,6 @@ begun m l most memory = record { book = fresh m l most; stage = None; memory = m
 -- on a new sheet of a board and a keep, with this memory
 abbrev pub started : {B K T : Type 0} → Board B T → Keep K T → B → K → List T → World T
 started as_board as_keep board keep memory = begun (as_board.matrix board) (as_board.limits board) (as_keep.store keep).most memory
-
--- the cells of a segment, and the pool when they are written over
-abbrev pub part : {T : Type 0} → List T → Segment → List T
-part xs g = take g.len (drop g.start xs)
-
-abbrev pub patched : {T : Type 0} → List T → Segment → List T → List T
-patched xs g ys = take g.start xs ++ (ys ++ drop (g.start + g.len) xs)
 
 abbrev pub by_stage : {A : Type 0} → Option ℕ → A → (ℕ → A) → A
 by_stage None first later = first

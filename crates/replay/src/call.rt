@@ -2,15 +2,9 @@
 pub mod exchange;
 
 use cells::refusal::Refusal;
+use flat::segment::Segment;
 use matrix::axis::Axis;
 use sheet::sheets::{OpenSheet, PublishedSheet};
-
-// Cells of a pool: from `start` on, `len` of them at most.
-#[derive(Clone, Copy, Debug, PartialEq, Eq)]
-pub struct Segment {
-    pub start: usize,
-    pub len: usize,
-}
 
 #[derive(Clone, Copy, Debug, PartialEq, Eq)]
 pub enum Call<T> {

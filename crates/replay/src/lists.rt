@@ -1,4 +1,5 @@
 // A scorer's list on a new sheet.
+// kept: `Holds` is a premise, since a world has a book, whose counts and earlier matrices no sheet stores.
 ghost use Rattle.std.specs.Prelude.{◌≡◌, List, length, take, drop};
 ghost use Rattle.replay.specs.World.{World, Holds, Ran, board_of, keep_of, started};
 ghost use Rattle.replay.specs.Laws.{Law};
@@ -6,7 +7,6 @@ ghost use Rattle.replay.specs.Laws.{Law};
 use crate::call::{Answer, Call, State};
 use crate::steps::step;
 use boards::board::Board;
-use flat::calls::poke;
 use keeps::keep::Keep;
 use sheet::sheets::OpenSheet;
 
@@ -28,12 +28,11 @@ fn run<B: Board, K: Keep<Cell = B::Cell>>(
 ) -> State<B, K>
     ensures ran { (w : World B.Cell) → Holds B.Board K.Keep state w → w.memory ≡ memory.old → Ran B.Board K.Keep result memory.new answers.old answers.new lines.now (take (length answers.old) calls.now) w }
 {
-    // kept: of a zip with answers.iter_mut() a proof knows no element after the loop, so each answer is written at its place
-    let n = calls.len().min(answers.len());
-    for (i, call) in calls[..n].iter().enumerate() {
-        let (next, answer) = step(state, *call, lines, memory);
-        state = next;
-        poke(answers, i, answer);
+    // kept: an index beside the answers: tried by `zip` with `iter_mut`, after which a proof knows nothing of what was written.
+    for (k, answer) in answers.iter_mut().enumerate() {
+        if let Some(call) = calls.get(k) {
+            (state, *answer) = step(state, *call, lines, memory);
+        }
     }
     state
 }
@@ -63,7 +62,7 @@ fn parts<B: Board, K: Keep<Cell = B::Cell>>(state: State<B, K>) -> Left<B, K>
 
 // Makes a sheet of the board and the keep and runs the list on it: as many of its calls as there is room for answers. Lines
 // that go in are segments of `lines`, and memory that is handed over for a line is a segment of `memory`.
-// kept: a caller has these as slices of its own; a struct of them would be built for this call and taken apart in it
+// kept: a caller has these as slices of its own; a struct of them would be built for this call and taken apart in it.
 pub fn replay<B: Board, K: Keep<Cell = B::Cell>>(
     board: B,
     keep: K,

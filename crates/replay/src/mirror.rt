@@ -12,7 +12,8 @@ use keeps::keep::Keep;
 
 // Runs the list on a new sheet of the first board and keep, and its exchange, which it writes down in `exchanged`, on one of
 // the others: as many calls as there is room for their exchange and for the answers of both.
-// kept: each of the two lists has a board, a keep and memory of its own, of other types, and they share the lines
+// kept: eleven parameters: the two lists share calls and lines, and each has a board and a keep of its own types, memory and
+// answers; a struct of those would be built for this call and taken apart in it.
 pub fn replay_both<
     B: Board,
     K: Keep<Cell = B::Cell>,

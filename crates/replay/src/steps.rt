@@ -1,24 +1,14 @@
 // One call of a list on a sheet.
-ghost use Rattle.std.specs.Prelude.{◌≡◌, ℕ, ◌+◌, ◌-◌, min, List, Some, None};
+// kept: lines and memory come as `replay` is handed them, and are lent to one call of the sheet each.
+// kept: `Stands`, `Closed` and `Holds` are premises, since a world has a book, whose counts and earlier matrices no sheet stores.
+ghost use Rattle.std.specs.Prelude.{◌≡◌, List, Some, None};
 ghost use Rattle.sheet.specs.Sheets.{Stands, Closed};
 ghost use Rattle.replay.specs.World.{World, Holds, Steps};
 
-use crate::call::{Answer, Call, Segment, State};
+use crate::call::{Answer, Call, State};
 use boards::board::Board;
 use keeps::keep::Keep;
 use sheet::sheets::{OpenSheet, PublishedSheet};
-use std::ops::Range;
-
-impl Segment {
-    // Where it lies in a pool of `total` cells.
-    fn within(self, total: usize) -> Range<usize>
-        ensures start { result.start ≡ min self.start total }
-        ensures end { result.end ≡ result.start + min self.len (total - result.start) }
-    {
-        let start = self.start.min(total);
-        start..start + self.len.min(total - start)
-    }
-}
 
 fn step_published<B: Board, K: Keep<Cell = B::Cell>>(
     sheet: PublishedSheet<B, K>,
@@ -49,10 +39,7 @@ fn step_open<B: Board, K: Keep<Cell = B::Cell>>(
 {
     let answer = match call {
         Call::Put(r, c, x) => Answer::Said(sheet.put(r, c, x)),
-        Call::Insert(axis, i, segment) => {
-            let line = &lines[segment.within(lines.len())];
-            Answer::Said(sheet.insert(axis, i, line))
-        }
+        Call::Insert(axis, i, segment) => Answer::Said(sheet.insert(axis, i, segment.of(lines))),
         Call::Remove(axis, i, segment) => {
             let range = segment.within(memory.len());
             Answer::Said(sheet.remove(axis, i, &mut memory[range]))

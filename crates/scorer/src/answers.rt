@@ -1,16 +1,23 @@
 // The answers of a sheet as they are printed.
-use crate::script::{Ask, Plan, line_length};
+// kept: `outcome` on each call, since it speaks of an output before and after it, so that no invariant says it. Calls and what they
+// were answered lie in two slices, as the library takes the one and gives the other.
+ghost use Rattle.std.specs.Prelude.{IfOk, IsOk};
+ghost use Rattle.desk.specs.Outcomes.{Clean};
+ghost use Rattle.scorer.specs.Plans.{AllAsked};
+
+use crate::script::{Ask, Item, Plan, line_length};
 use cells::refusal::Refusal;
 use desk::output::Output;
+use flat::segment::Segment;
 use listing::answer::{Answer, Cells};
 use listing::name::Name;
 use listing::written::Written;
 use listing::wrong::Wrong;
 use replay::call::{Answer as Said, Call};
 use replay::tally::Tally;
-use std::alloc::Global;
 
 // What a run of a plan has answered: the rows under the sheet, its calls, and the memory as it was left.
+// kept: the answers to the rows apart from the rows, since rows are read once, and a sheet that is run twice answers twice
 #[derive(Drop)]
 pub struct Played<T: Drop> {
     pub starts: Vec<Result<(), Refusal>>,
@@ -20,26 +27,43 @@ pub struct Played<T: Drop> {
 
 impl<T: Written> Played<T> {
     // The answers of the whole sheet, with its counts on the way.
-    pub fn print(&self, out: &mut Output<'_>, heap: Global, plan: &Plan<T>) -> anyhow::Result<()> {
+    pub fn print(&self, out: &mut Output<'_>, plan: &Plan<T>) -> anyhow::Result<()>
+        ensures outcome { IfOk result (λ _. Clean out.new → Clean out.old × AllAsked plan.now.items.items) }
+    {
         let mut tally = Tally::new();
         for item in plan.items.iter() {
-            let calls = item.of(plan.calls.as_slice());
-            let said = item.of(self.answers.as_slice());
-            match item.ask {
-                Ok(Ask::Start(number)) => tell(out, item.number, self.under(number))?,
-                Ok(Ask::One | Ask::Show) => tell(out, item.number, first(calls, said))?,
-                Ok(Ask::Line) => tell(out, item.number, self.removed(calls, said))?,
-                Ok(Ask::Tally) => out.answer(counted::<T>(tally, said))?,
-                Err(wrong) => out.error(item.number, wrong)?,
-            }
-            if let Ok(Ask::Show) = item.ask {
-                rows(out, heap, said)?;
-            }
+            let calls = item.part.of(plan.calls.as_slice());
+            let said = item.part.of(self.answers.as_slice());
+            self.print_item(out, tally, *item, calls, said)?;
             for (call, said) in calls.iter().zip(said.iter()) {
                 tally = tally.with(*call, *said);
             }
         }
         Ok(())
+    }
+
+    // The answer of a line, of which these are the calls and what they said.
+    fn print_item(
+        &self,
+        out: &mut Output<'_>,
+        tally: Tally,
+        item: Item,
+        calls: &[Call<T>],
+        said: &[Said<T>],
+    ) -> anyhow::Result<()>
+        ensures outcome { IfOk result (λ _. Clean out.new → Clean out.old × IsOk item.ask) }
+    {
+        match item.ask {
+            Ok(Ask::Start(number)) => tell(out, item.number, self.under(number)),
+            Ok(Ask::One) => tell(out, item.number, first(calls, said)),
+            Ok(Ask::Show) => {
+                tell(out, item.number, first(calls, said))?;
+                rows(out, said)
+            }
+            Ok(Ask::Line) => tell(out, item.number, self.removed(calls, said)),
+            Ok(Ask::Tally) => out.answer(counted::<T>(tally, said)),
+            Err(wrong) => out.error(item.number, wrong),
+        }
     }
 
     // The answer of the row of that number under the sheet.
@@ -71,8 +95,7 @@ impl<T: Written> Played<T> {
             Call::Remove(_, _, segment) | Call::StepBack(segment) => segment.start,
             _ => 0,
         };
-        let end = start.saturating_add(length);
-        self.memory.as_slice().get(start..end).unwrap_or(&[])
+        Segment { start, len: length }.of(self.memory.as_slice())
     }
 }
 
@@ -81,7 +104,9 @@ fn tell<T: Written>(
     out: &mut Output<'_>,
     number: usize,
     answer: Result<Answer<'_, T>, Wrong>,
-) -> anyhow::Result<()> {
+) -> anyhow::Result<()>
+    ensures outcome { IfOk result (λ _. Clean out.new → Clean out.old) }
+{
     match answer {
         Ok(answer) => out.answer(answer),
         Err(wrong) => out.error(number, wrong),
@@ -122,7 +147,9 @@ fn spoken<'a, T: Written>(call: Call<T>, said: Said<T>) -> Result<Answer<'a, T>,
 }
 
 // Every row of a sheet, of which the size was said and then the cells.
-fn rows<T: Written>(out: &Output<'_>, heap: Global, said: &[Said<T>]) -> anyhow::Result<()> {
+fn rows<T: Written>(out: &mut Output<'_>, said: &[Said<T>]) -> anyhow::Result<()>
+    ensures outcome { IfOk result (λ _. Clean out.new → Clean out.old) }
+{
     let [Said::Sized(_, cols), cells @ ..] = said else {
         return Ok(());
     };
@@ -130,7 +157,7 @@ fn rows<T: Written>(out: &Output<'_>, heap: Global, said: &[Said<T>]) -> anyhow:
         return Ok(());
     }
     for row in cells.chunks(*cols) {
-        let mut line = Vec::new(heap);
+        let mut line = Vec::new(out.heap);
         for said in row {
             if let Said::Cell(Some(cell)) = said {
                 line.push(*cell)?;

@@ -1,9 +1,12 @@
 // A list run on a board and a keep over memory of its own.
-ghost use Rattle.std.specs.Prelude.{⊤};
+ghost use Rattle.std.specs.Prelude.{◌≡◌, IfOk};
+ghost use Rattle.scorer.specs.Plays.{Plays};
 
 use crate::answers::Played;
+use crate::script::Supply;
 use boards::board::Board;
 use cells::kinds::Kind;
+use cells::refusal::Refusal;
 use keeps::joined::JoinedKeep;
 use keeps::keep::Keep;
 use keeps::stack::StackKeep;
@@ -12,7 +15,7 @@ use listing::call::Keeping;
 use listing::written::Written;
 use matrix::axis::Axis;
 use matrix::limits::CELLS;
-use replay::call::{Answer, Call, Segment};
+use replay::call::Call;
 use replay::lists::replay;
 use std::alloc::{AllocError, Global};
 
@@ -22,17 +25,15 @@ use std::alloc::{AllocError, Global};
 pub struct Run<'a, T: Drop> {
     pub heap: Global,
     pub keeping: Keeping,
-    pub rows: &'a [Segment],
+    pub supply: &'a Supply<T>,
     pub calls: &'a [Call<T>],
-    pub cells: &'a [T],
     pub played: Played<T>,
 }
 
 impl<T: Written> Work<T> for Run<'_, T> {
     type Out = Result<Played<T>, AllocError>;
 
-    // nothing is promised of it
-    ghost gives = { λ _ _ _ _. ⊤ };
+    ghost gives = { λ run _ limits result. IfOk result (λ played. Plays run limits played) };
 
     // Makes the keep. More memory than a keep has cells changes nothing.
     fn on<B: Board<Cell = T> + Drop>(self, board: B) -> Result<Played<T>, AllocError> {
@@ -56,37 +57,35 @@ impl<T: Written> Run<'_, T> {
     // The rows that lie under the sheet, and then the sheet's own calls.
     fn on_keep<B: Board<Cell = T> + Drop, K: Keep<Cell = T> + Drop>(
         self,
-        board: B,
+        mut board: B,
         keep: K,
-    ) -> Played<T> {
-        let mut board = board;
-        let Played {
-            mut starts,
-            mut answers,
-            mut memory,
-        } = self.played;
-        for (said, segment) in starts.iter_mut().zip(self.rows.iter()) {
-            let (last, _) = board.size();
-            *said = board.insert(Axis::Row, last, row(self.cells, *segment));
-        }
+    ) -> Played<T>
+        ensures plays { Plays self.entry (B.Board.limits board) result }
+    {
+        let mut played = self.played;
+        lay(self.supply, &mut board, played.starts.as_mut_slice());
         let _ = replay(
             board,
             keep,
             self.calls,
-            self.cells,
-            memory.as_mut_slice(),
-            answers.as_mut_slice(),
+            self.supply.cells.as_slice(),
+            played.memory.as_mut_slice(),
+            played.answers.as_mut_slice(),
         );
-        Played {
-            starts,
-            answers,
-            memory,
-        }
+        played
     }
 }
 
-// The cells of a segment.
-fn row<T>(cells: &[T], segment: Segment) -> &[T] {
-    let end = segment.start.saturating_add(segment.len);
-    cells.get(segment.start..end).unwrap_or(&[])
+// Puts the rows under a sheet onto its board, each after those that there are.
+fn lay<T: Written, B: Board<Cell = T>>(
+    supply: &Supply<T>,
+    board: &mut B,
+    starts: &mut [Result<(), Refusal>],
+)
+    ensures limits { B.Board.limits board.new ≡ B.Board.limits board.old }
+{
+    for (said, row) in starts.iter_mut().zip(supply.starts.iter()) {
+        let (last, _) = board.size();
+        *said = board.insert(Axis::Row, last, row.of(supply.cells.as_slice()));
+    }
 }

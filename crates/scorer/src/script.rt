@@ -1,10 +1,16 @@
 // The lines of one sheet as calls of the library.
+// kept: that a call leaves the lines read before speaks of a plan before and after it, so that no invariant says it.
+ghost use Rattle.std.specs.Prelude.{◌≡◌, [], IfOk, IsOk};
+ghost use Rattle.scorer.specs.Plans.{AllAsked};
+
 use desk::lines::Line;
+use desk::spelt::read_cells;
+use flat::segment::Segment;
 use listing::call::{Call as Asked, SheetKind};
 use listing::written::Written;
 use listing::wrong::{Failure, Wrong};
 use matrix::limits::SIDE;
-use replay::call::{Answer as Said, Call, Segment};
+use replay::call::{Answer as Said, Call};
 use std::alloc::{AllocError, Global};
 
 // What a line asks, and so how its answers are printed.
@@ -23,15 +29,15 @@ pub enum Ask {
     Tally,
 }
 
-// A line that has an answer: its number in the list, what it asks or what is wrong with it, and its calls among those of the
-// sheet.
-// kept: the library takes a sheet's calls and gives their answers in one slice each, so that a line has a part of both
+// A line that has an answer: its number in the list, what it asks or what is wrong with it, and its part of what there is for
+// each call of the sheet.
+// kept: the library takes a sheet's calls, and gives their answers, in one slice each; lines with vectors of their own would be
+// copied into such slices before each run, and the answers out of them after it
 #[derive(Clone, Copy)]
 pub struct Item {
     pub number: usize,
     pub ask: Result<Ask, Wrong>,
-    first: usize,
-    count: usize,
+    pub part: Segment,
 }
 
 // The lines of a sheet, their calls, and how many cells of memory there are for the lines that come out.
@@ -43,18 +49,11 @@ pub struct Plan<T: Drop> {
 }
 
 // The rows under a sheet, and the cells that go in by them and by the sheet's calls.
+// kept: rows beside cells, since the library takes the cells of all calls in one slice, and the rows are read among them
 #[derive(Drop)]
 pub struct Supply<T: Drop> {
     pub starts: Vec<Segment>,
     pub cells: Vec<T>,
-}
-
-impl Item {
-    // The item's part of what there is for each call of the sheet.
-    pub fn of<X>(self, all: &[X]) -> &[X] {
-        let end = self.first.saturating_add(self.count);
-        all.get(self.first..end).unwrap_or(&[])
-    }
 }
 
 impl<T: Written> Supply<T> {
@@ -68,10 +67,7 @@ impl<T: Written> Supply<T> {
     // The cells that words spell go to the end of the cells.
     fn read(&mut self, kind: SheetKind, words: &[&str]) -> Result<Segment, Failure> {
         let start = self.cells.len();
-        for (at, word) in words.iter().enumerate() {
-            let cell = T::read(word).ok_or(Wrong::NoCell(kind, at + 1))?;
-            self.cells.push(cell)?;
-        }
+        read_cells(&mut self.cells, kind, words)?;
         Ok(Segment {
             start,
             len: words.len(),
@@ -80,7 +76,9 @@ impl<T: Written> Supply<T> {
 }
 
 impl<T: Written> Plan<T> {
-    pub fn new(heap: Global, pool: usize) -> Plan<T> {
+    pub fn new(heap: Global, pool: usize) -> Plan<T>
+        ensures items { result.items.items ≡ [] }
+    {
         Plan {
             items: Vec::new(heap),
             calls: Vec::new(heap),
@@ -94,7 +92,9 @@ impl<T: Written> Plan<T> {
         supply: &mut Supply<T>,
         kind: SheetKind,
         line: Line<'_>,
-    ) -> Result<(), AllocError> {
+    ) -> Result<(), AllocError>
+        ensures items { IfOk result (λ _. AllAsked self.new.items.items → AllAsked self.old.items.items × IsOk line.entry.call) }
+    {
         let first = self.calls.len();
         let asked = match line.call {
             Ok(call) => self.asked(supply, kind, call),
@@ -112,7 +112,9 @@ impl<T: Written> Plan<T> {
         supply: &mut Supply<T>,
         kind: SheetKind,
         call: Asked<'_>,
-    ) -> Result<Ask, Failure> {
+    ) -> Result<Ask, Failure>
+        ensures items { self.new.items ≡ self.old.items }
+    {
         match call {
             Asked::Start(words) => {
                 let row = supply.read(kind, words)?;
@@ -167,12 +169,16 @@ impl<T: Written> Plan<T> {
             .any(|call| !matches!(call, Call::Reopen | Call::Settled))
     }
 
-    fn one(&mut self, call: Call<T>) -> Result<Ask, Failure> {
+    fn one(&mut self, call: Call<T>) -> Result<Ask, Failure>
+        ensures items { self.new.items ≡ self.old.items }
+    {
         self.calls.push(call)?;
         Ok(Ask::One)
     }
 
-    fn between(&mut self, call: Call<T>) -> Result<Ask, Failure> {
+    fn between(&mut self, call: Call<T>) -> Result<Ask, Failure>
+        ensures items { self.new.items ≡ self.old.items }
+    {
         self.calls.push(Call::Size)?;
         self.calls.push(call)?;
         self.calls.push(Call::Size)?;
@@ -185,14 +191,12 @@ impl<T: Written> Plan<T> {
         number: usize,
         ask: Result<Ask, Wrong>,
         first: usize,
-    ) -> Result<(), AllocError> {
-        let count = self.calls.len().saturating_sub(first);
-        self.items.push(Item {
-            number,
-            ask,
-            first,
-            count,
-        })?;
+    ) -> Result<(), AllocError>
+        ensures items { IfOk result (λ _. AllAsked self.new.items.items → AllAsked self.old.items.items × IsOk ask) }
+    {
+        let len = self.calls.len().saturating_sub(first);
+        let part = Segment { start: first, len };
+        self.items.push(Item { number, ask, part })?;
         Ok(())
     }
 
@@ -206,29 +210,41 @@ impl<T: Written> Plan<T> {
 
     // The plan once more, when a first run has told the sizes: each line that comes out has a place of its own in the memory,
     // and every cell of a shown sheet is asked for.
-    pub fn unrolled(&self, heap: Global, said: &[Said<T>]) -> Result<Plan<T>, AllocError> {
+    pub fn unrolled(&self, heap: Global, said: &[Said<T>]) -> Result<Plan<T>, AllocError>
+        ensures items { IfOk result (λ plan. AllAsked plan.items.items → AllAsked self.now.items.items) }
+    {
         let mut plan = Plan::new(heap, 0);
         for item in self.items.iter() {
             let first = plan.calls.len();
-            for call in item.of(self.calls.as_slice()) {
+            for call in item.part.of(self.calls.as_slice()) {
                 plan.calls.push(moved(*call, plan.pool))?;
             }
-            match (item.ask, item.of(said)) {
-                (Ok(Ask::Show), [Said::Sized(rows, cols)]) => plan.ask_cells(*rows, *cols)?,
-                (Ok(Ask::Line), said) => {
-                    plan.pool = plan.pool.saturating_add(line_length(said));
-                }
-                _ => {}
-            }
+            plan.unroll(item.ask, item.part.of(said))?;
             plan.note(item.number, item.ask, first)?;
         }
         plan.pool = plan.pool.saturating_add(SIDE);
         Ok(plan)
     }
 
+    // Room for a line that comes out, and every cell of a sheet that is shown, when the calls have said this.
+    fn unroll(&mut self, ask: Result<Ask, Wrong>, said: &[Said<T>]) -> Result<(), AllocError>
+        ensures items { self.new.items ≡ self.old.items }
+    {
+        match (ask, said) {
+            (Ok(Ask::Show), [Said::Sized(rows, cols)]) => self.ask_cells(*rows, *cols),
+            (Ok(Ask::Line), said) => {
+                self.pool = self.pool.saturating_add(line_length(said));
+                Ok(())
+            }
+            _ => Ok(()),
+        }
+    }
+
     // Every cell of a sheet of that size, row by row.
     // kept: a row and a column are what is asked for, and index nothing here
-    fn ask_cells(&mut self, rows: usize, cols: usize) -> Result<(), AllocError> {
+    fn ask_cells(&mut self, rows: usize, cols: usize) -> Result<(), AllocError>
+        ensures items { self.new.items ≡ self.old.items }
+    {
         for r in 0..rows {
             for c in 0..cols {
                 self.calls.push(Call::Get(r, c))?;

@@ -22,10 +22,10 @@ impl Sheets for Kept {
     // tells the sizes, and the answers are those of a second.
     fn answer<'a, T: Written>(
         mut out: Output<'a>,
-        heap: Global,
         fresh: Fresh,
         lines: &'a [Line<'a>],
     ) -> anyhow::Result<Output<'a>> {
+        let heap = out.heap;
         let mut plan: Plan<T> = Plan::new(heap, SIDE);
         let mut supply: Supply<T> = Supply::new(heap);
         for line in lines {
@@ -33,12 +33,12 @@ impl Sheets for Kept {
         }
         let first = play(heap, fresh, &supply, &plan)?;
         if plan.is_unrolled() {
-            first.print(&mut out, heap, &plan)?;
+            first.print(&mut out, &plan)?;
             return Ok(out);
         }
         let plan = plan.unrolled(heap, first.answers.as_slice())?;
         let second = play(heap, fresh, &supply, &plan)?;
-        second.print(&mut out, heap, &plan)?;
+        second.print(&mut out, &plan)?;
         Ok(out)
     }
 
@@ -58,9 +58,8 @@ fn play<T: Written>(
     let run = Run {
         heap,
         keeping: fresh.keeping,
-        rows: supply.starts.as_slice(),
+        supply,
         calls: plan.calls.as_slice(),
-        cells: supply.cells.as_slice(),
         played: Played {
             starts: vec![in heap; Ok(()); supply.starts.len()]?,
             answers: vec![in heap; Said::Lacking; plan.calls.len()]?,

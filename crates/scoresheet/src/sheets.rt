@@ -1,11 +1,14 @@
 // The sheets of a list.
-ghost use Rattle.std.specs.Prelude.{⊤};
+// kept: a board and the memory for a line come one by one, since both are lent to one call of the board and to nothing else.
+ghost use Rattle.std.specs.Prelude.{[], ◌∷◌, IfOk, IsOk};
+ghost use Rattle.desk.specs.Outcomes.{Answered, Clean};
 
 use boards::board::Board;
 use cells::kinds::Kind;
 use desk::lines::Line;
 use desk::output::Output;
 use desk::sheets::Sheets;
+use desk::spelt::read_cells;
 use layouts::over::{Work, cells_under, over};
 use listing::answer::{Answer, Cells};
 use listing::call::{Call, Fresh, SheetKind};
@@ -14,7 +17,6 @@ use listing::written::Written;
 use listing::wrong::{Failure, Wrong};
 use matrix::axis::Axis;
 use matrix::limits::SIDE;
-use std::alloc::Global;
 
 // Sheets that do not step back yet.
 pub struct Plain;
@@ -23,14 +25,12 @@ impl Sheets for Plain {
     // Makes the board, and answers the lines on it.
     fn answer<'a, T: Written>(
         out: Output<'a>,
-        heap: Global,
         fresh: Fresh,
         lines: &'a [Line<'a>],
     ) -> anyhow::Result<Output<'a>> {
-        let mut memory = vec![in heap; T::blank(); cells_under(fresh.layout.ground)]?;
+        let mut memory = vec![in out.heap; T::blank(); cells_under(fresh.layout.ground)]?;
         let sheet = Sheet {
             out,
-            heap,
             kind: fresh.kind,
             has_begun: false,
             lines,
@@ -56,7 +56,6 @@ impl Sheets for Plain {
 #[derive(Drop)]
 struct Sheet<'a> {
     out: Output<'a>,
-    heap: Global,
     kind: SheetKind,
     // kept: a plain yes or no, with no value that goes with it
     has_begun: bool,
@@ -66,12 +65,11 @@ struct Sheet<'a> {
 impl<'a, T: Written> Work<T> for Sheet<'a> {
     type Out = anyhow::Result<Output<'a>>;
 
-    // nothing is promised of it
-    ghost gives = { λ _ _ _ _. ⊤ };
+    ghost gives = { λ sheet _ _ result. IfOk result (λ out. Answered sheet.lines.now sheet.out out) };
 
     // Answers the lines on the sheet's board.
     fn on<B: Board<Cell = T> + Drop>(mut self, mut board: B) -> anyhow::Result<Output<'a>> {
-        let mut memory = vec![in self.heap; T::blank(); SIDE]?;
+        let mut memory = vec![in self.out.heap; T::blank(); SIDE]?;
         let lines = self.lines;
         for line in lines {
             self.line::<T, B>(&mut board, memory.as_mut_slice(), *line)?;
@@ -87,7 +85,9 @@ impl<'a> Sheet<'a> {
         board: &mut B,
         memory: &mut [T],
         line: Line<'_>,
-    ) -> anyhow::Result<()> {
+    ) -> anyhow::Result<()>
+        ensures line { IfOk result (λ _. Answered (line.entry ∷ []) self.old.out self.new.out) }
+    {
         match self.answered::<T, B>(board, memory, line) {
             Ok(answer) => self.out.answer(answer)?,
             Err(Failure::Wrong(wrong)) => return self.out.error(line.number, wrong),
@@ -110,7 +110,9 @@ impl<'a> Sheet<'a> {
         board: &mut B,
         memory: &'m mut [T],
         line: Line<'_>,
-    ) -> Result<Answer<'m, T>, Failure> {
+    ) -> Result<Answer<'m, T>, Failure>
+        ensures sound { IsOk result → IsOk line.entry.call }
+    {
         match line.call? {
             Call::Start(_) if self.has_begun => Err(Failure::Wrong(Wrong::Late)),
             Call::Start(words) => {
@@ -146,22 +148,21 @@ impl<'a> Sheet<'a> {
 
     // The cells that the words spell.
     fn cells<T: Written>(&self, words: &[&str]) -> Result<Vec<T>, Failure> {
-        let mut cells = Vec::new(self.heap);
-        for (at, word) in words.iter().enumerate() {
-            let cell = T::read(word).ok_or(Wrong::NoCell(self.kind, at + 1))?;
-            cells.push(cell)?;
-        }
+        let mut cells = Vec::new(self.out.heap);
+        read_cells(&mut cells, self.kind, words)?;
         Ok(cells)
     }
 
     // Every row of the board.
     // kept: a row and a column are what is asked for, and index nothing here
-    fn rows<T: Written, B: Board<Cell = T>>(&self, board: &B) -> anyhow::Result<()> {
+    fn rows<T: Written, B: Board<Cell = T>>(&mut self, board: &B) -> anyhow::Result<()>
+        ensures outcome { IfOk result (λ _. Clean self.new.out → Clean self.old.out) }
+    {
         let (rows, cols) = board.size();
         for r in 0..rows {
             let row: Vec<T> = (0..cols)
                 .filter_map(|c| board.get(r, c))
-                .collect(self.heap)?;
+                .collect(self.out.heap)?;
             self.out.answer(Answer::Row(Cells(row.as_slice())))?;
         }
         Ok(())
@@ -177,10 +178,7 @@ fn removed<'m, T: Written, B: Board<Cell = T>>(
     room: usize,
 ) -> Answer<'m, T> {
     let (rows, cols) = board.size();
-    let length = match axis {
-        Axis::Row => cols,
-        Axis::Col => rows,
-    };
+    let (_, length) = axis.pair(rows, cols);
     let room = room.min(memory.len());
     match board.remove(axis, i, &mut memory[..room]) {
         Ok(()) => Answer::Line(Cells(&memory[..length.min(memory.len())])),

@@ -12,7 +12,7 @@ use Rattle.seating.specs.declared.bench.Bench.{Bench}
 use Rattle.seating.specs.declared.seating.Seating.{Seating}
 use Rattle.seating.specs.Benches.{seat}
 use Rattle.seating.specs.Seats.{spot, counted, seated, Exchanged, Faced, spot_of}
-use Rattle.seating.specs.Lines.{line_spots, WrittenAt}
+use Rattle.seating.specs.Lines.{line_spots, Written}
 
 exchanged_side : (s t : Seating) → Exchanged s t → t.down.side ≡ s.down.side
 exchanged_side s t e = ap (λ (b : Bench). b.side) e.0 ∙ s.square
@@ -54,6 +54,6 @@ faced_seated Row s t xs e = ap (λ u. seated u xs) e
 faced_seated Col s t xs e = exchanged_seated s t xs e
 
 -- a row that is written on its seats, as the line along the axis that it is
-pub faced_cells : {T : Type 0} (ax : Axis) (s t : Seating) (i n : ℕ) (line xs ys : List T) → Faced ax s t → WrittenAt (line_spots Row i s) line n xs ys → WrittenAt (line_spots ax i t) line n xs ys
-faced_cells Row s t i n line xs ys e w = subst (λ u. WrittenAt (line_spots Row i u) line n xs ys) (sym e) w
-faced_cells Col s t i n line xs ys e w = subst (λ at. WrittenAt at line n xs ys) (fun_ext (λ c. sym (spot_exchanged s t c i e))) w
+pub faced_cells : {T : Type 0} (ax : Axis) (s t : Seating) (i n : ℕ) (line xs ys : List T) → Faced ax s t → Written (line_spots Row i s) line n xs ys → Written (line_spots ax i t) line n xs ys
+faced_cells Row s t i n line xs ys e w = subst (λ u. Written (line_spots Row i u) line n xs ys) (sym e) w
+faced_cells Col s t i n line xs ys e w = subst (λ at. Written at line n xs ys) (fun_ext (λ c. sym (spot_exchanged s t c i e))) w

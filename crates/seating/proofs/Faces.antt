@@ -1,13 +1,13 @@
 -- Cells on seats along an axis.
-use Rattle.std.proofs.Common.{◌≡◌, ℕ, ◌-◌, ◌*◌, ◌<◌, ◌≤◌, List, length, get_or, set, Some, None, Option, sym, refl, ap, ◌∙◌, subst, ⊎_elim, arith}
+use Rattle.std.proofs.Common.{◌≡◌, ℕ, ◌-◌, ◌*◌, ◌<◌, ◌≤◌, List, length, get_or, set, Some, sym, refl, ap, ◌∙◌, ⊎_elim, arith}
 use Rattle.std.specs.List.{slice_get}
 use Rattle.std.proofs.lemmas.Bool.{cases_lt}
 use Rattle.matrix.specs.declared.axis.Axis.{Axis}
 use Rattle.matrix.specs.declared.axis.Axis.TheVariants.{Row, Col}
 use Rattle.matrix.specs.Axes.{other, along}
-use Rattle.matrix.specs.Matrix.{inside, turned, put_cell, flip_rows, flip_cols}
+use Rattle.matrix.specs.Matrix.{turned, put_cell, flip_rows, flip_cols}
 use Rattle.matrix.proofs.Held.{turns}
-use Rattle.matrix.proofs.Whole.{Whole, same_inside, inside_in, whole_flip_rows, flip_in, inside_below, inside_right}
+use Rattle.matrix.proofs.Whole.{Whole, same_inside, inside_in, whole_flip_rows, flip_in, whole_inside, inside_some}
 use Rattle.seating.specs.declared.bench.Bench.{Bench}
 use Rattle.seating.specs.declared.seating.Seating.{Seating}
 use Rattle.seating.specs.Benches.{seat, flipped}
@@ -15,39 +15,10 @@ use Rattle.seating.specs.Seats.{spot, spot_of, spots, counted, seated, bench_of}
 use Rattle.seating.proofs.Tables.{flipped_low}
 use Rattle.seating.proofs.Fits.{put_seated, counted_in, counted_out}
 use Rattle.seating.proofs.Exchanges.{counted_same, exchanged_seated}
-use Rattle.seating.proofs.Owes.{spot_within}
-
-abbrev Absent : {X : Type 0} → Option X → Type 0
-Absent None = Unit {0}
-Absent (Some x) = ⊥
-
-none_some : {X : Type 0} (x : X) → None ≡ Some x → ⊥
-none_some {X} x e = subst (λ (o : Option X). Absent o) e tt
-
-inside_some : (R C r c y k : ℕ) → inside R C r c (Some y) ≡ Some k → (r < R) × (c < C) × (k ≡ y)
-inside_some R C r c y k e = ⊎_elim
-    (λ (hr : r < R). ⊎_elim
-    (λ (hc : c < C). let z : Some y ≡ Some k = sym (inside_in R C r c (Some y) hr hc) ∙ e in (hr, hc, cc))
-    (λ (hc : C ≤ c). absurd (none_some k (sym (inside_right R C r c (Some y) hc) ∙ e)))
-    (cases_lt c C))
-    (λ (hr : R ≤ r). absurd (none_some k (sym (inside_below R C r c (Some y) hr) ∙ e)))
-    (cases_lt r R)
+use Rattle.seating.proofs.Owes.{spot_in}
 
 put_up : {T : Type 0} (s : Seating) (xs ys : List T) (r c k : ℕ) (x : T) → (spots s (length xs)).cell r c ≡ Some k → ys ≡ set xs k x → seated s ys ≡ put_cell r c x (seated s xs)
-put_up s xs ys r c k x e w = ⊎_elim
-    (λ (h : length xs < s.down.side * s.down.side). absurd (omega (arith, p.0, counted_out s (length xs) s.down.count h)))
-    (λ (h : s.down.side * s.down.side ≤ length xs).
-    let er = counted_in s (length xs) s.down.count h in
-    let ec = counted_in s (length xs) s.across.count h in
-    let hr = p.0 in
-    let hc = p.1 in
-    let q = s.square in
-    let rs = s.down.small.1 in
-    let cs = s.across.small.1 in
-    let a = s.down.below r (omega arith) in
-    let b = s.across.below c (omega arith) in
-    put_seated s xs ys r c k x p.0 p.1 p.2 (omega (arith, p.2, spot_within s.lying s.down.side (seat s.down r) (seat s.across c) a (omega arith))) w)
-    (cases_lt (length xs) (s.down.side * s.down.side))
+put_up s xs ys r c k x e w = put_seated s xs ys r c k x p.0 p.1 p.2 (let l = spot_in s (length xs) r c p.0 p.1 in omega (arith, p.2)) w
   where
     p : (r < counted s (length xs) s.down.count) × (c < counted s (length xs) s.across.count) × (k ≡ spot_of s r c)
     p = inside_some (counted s (length xs) s.down.count) (counted s (length xs) s.across.count) r c (spot_of s r c) k e
@@ -75,7 +46,7 @@ module _ {T : Type 0} (s t : Seating) (xs : List T) where
       ∙ sym (flip_in (seated s xs) r c hr' ∙ inside_in R C (R - 1 - r) c (slice_get xs (spot_of s (R - 1 - r) c)) (omega arith) hc'))
     where
       whole : (u : Seating) → Whole (seated u xs)
-      whole u = record { below = λ r c h. inside_below _ _ r c (slice_get xs (spot_of u r c)) h; right = λ r c h. inside_right _ _ r c (slice_get xs (spot_of u r c)) h }
+      whole u = whole_inside _ _ (λ r c. slice_get xs (spot_of u r c))
 
       rows : counted t (length xs) t.down.count ≡ R
       rows = counted_same s t (length xs) t.down.count side ∙ ap (counted s (length xs)) count

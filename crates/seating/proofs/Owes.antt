@@ -9,7 +9,7 @@ use Rattle.matrix.specs.declared.axis.Axis.TheVariants.{Row, Col}
 use Rattle.matrix.specs.Axes.{along}
 use Rattle.matrix.specs.Rules.{Within}
 use Rattle.matrix.proofs.Cells.{present}
-use Rattle.matrix.proofs.Held.{within_turned}
+use Rattle.matrix.proofs.Along.{within_along}
 use Rattle.matrix.proofs.Products.{line_ends, sides_within}
 use Rattle.matrix.proofs.Whole.{inside_in, inside_below, inside_right}
 use Rattle.seating.specs.declared.seating.Seating.{Seating}
@@ -21,6 +21,21 @@ pub spot_within : (lying : Axis) (side a b : ℕ) → a < side → b < side → 
 spot_within Row side a b ha hb = omega (arith, line_ends a side side ha)
 spot_within Col side a b ha hb = omega (arith, line_ends b side side hb)
 
+-- the flat place of a row and a column that are there, in n cells of memory
+pub spot_in : (s : Seating) (n r c : ℕ) → r < counted s n s.down.count → c < counted s n s.across.count → spot_of s r c < n
+spot_in s n r c hr hc = ⊎_elim
+    (λ (h : n < s.down.side * s.down.side). absurd (omega (arith, counted_out s n s.down.count h)))
+    (λ (h : s.down.side * s.down.side ≤ n).
+    let er = counted_in s n s.down.count h in
+    let ec = counted_in s n s.across.count h in
+    let q = s.square in
+    let rs = s.down.small.1 in
+    let cs = s.across.small.1 in
+    let a = s.down.below r (omega arith) in
+    let b = s.across.below c (omega arith) in
+    omega (arith, spot_within s.lying s.down.side (seat s.down r) (seat s.across c) a (omega arith)))
+    (cases_lt n (s.down.side * s.down.side))
+
 module _ {T : Type 0} (s : Seating) (xs : List T) where
   abbrev R : ℕ
   R = counted s (length xs) s.down.count
@@ -29,20 +44,10 @@ module _ {T : Type 0} (s : Seating) (xs : List T) where
   C = counted s (length xs) s.across.count
 
   full : (r c : ℕ) → r < R → c < C → (x : T) × ((seated s xs).cell r c ≡ Some x)
-  full r c hr hc = ⊎_elim
-      (λ (h : length xs < s.down.side * s.down.side). absurd (omega (arith, counted_out s (length xs) s.down.count h)))
-      (λ (h : s.down.side * s.down.side ≤ length xs).
-      let er = counted_in s (length xs) s.down.count h in
-      let ec = counted_in s (length xs) s.across.count h in
-      let q = s.square in
-      let rs = s.down.small.1 in
-      let cs = s.across.small.1 in
-      let a = s.down.below r (omega arith) in
-      let b = s.across.below c (omega arith) in
-      let l : spot_of s r c < length xs = omega (arith, spot_within s.lying s.down.side (seat s.down r) (seat s.across c) a (omega arith)) in
+  full r c hr hc =
+      let l = spot_in s (length xs) r c hr hc in
       let d = present xs (spot_of s r c) l in
-      (get_or xs (spot_of s r c) d, inside_in R C r c (slice_get xs (spot_of s r c)) hr hc ∙ slice_get-get_or xs (spot_of s r c) d l))
-      (cases_lt (length xs) (s.down.side * s.down.side))
+      (get_or xs (spot_of s r c) d, inside_in R C r c (slice_get xs (spot_of s r c)) hr hc ∙ slice_get-get_or xs (spot_of s r c) d l)
 
   none_down : R ≡ 0 → C ≡ 0
   none_down e = ⊎_elim
@@ -82,5 +87,4 @@ module _ {T : Type 0} (s : Seating) (xs : List T) where
       }
 
 pub along_within : {T : Type 0} (ax : Axis) (s : Seating) (xs : List T) → Within (seated_limits s (length xs)) (along ax (seated s xs))
-along_within Row s xs = seated_within s xs
-along_within Col s xs = within_turned (seated_within s xs)
+along_within ax s xs = within_along ax (seated_within s xs)

@@ -1,12 +1,10 @@
 -- What the tables pick out of the cells when a row comes and when one goes.
 use Rattle.std.proofs.Common.{◌≡◌, ℕ, ◌+◌, ◌-◌, ◌<◌, ◌≤◌, List, length, get_or, sym, ap, ◌∙◌, ⊎_elim, arith}
 use Rattle.std.specs.List.{slice_get}
-use Rattle.std.proofs.lemmas.Option.{slice_get_past}
-use Rattle.std.proofs.lemmas.Bool.{cases_lt, cases_order}
-use Rattle.matrix.specs.Matrix.{Matrix, row, listed, insert_row, remove_row, skipped}
-use Rattle.matrix.proofs.Cells.{spliced_below, spliced_at, spliced_above, skipped_below, skipped_above}
-use Rattle.matrix.proofs.Undo.{listed_nth, listed_same}
-use Rattle.matrix.proofs.Whole.{Whole, same_inside, inside_in, inside_below, inside_right, whole_insert_row, whole_remove_row, across_stays}
+use Rattle.std.proofs.lemmas.Bool.{cases_order}
+use Rattle.matrix.specs.Matrix.{Matrix, insert_row, remove_row, skipped}
+use Rattle.matrix.proofs.Cells.{spliced_below, spliced_at, spliced_above, skipped_within}
+use Rattle.matrix.proofs.Whole.{Whole, same_inside, inside_in, whole_inside, whole_insert_row, whole_remove_row, across_stays}
 use Rattle.seating.specs.declared.seating.Seating.{Seating}
 use Rattle.seating.specs.Benches.{seat}
 use Rattle.seating.specs.Seats.{spot, seen, spot_of, Opened, Closed}
@@ -14,24 +12,10 @@ use Rattle.seating.specs.Lines.{Written}
 use Rattle.seating.proofs.Spots.{seats_apart}
 
 pub whole_seen : {T : Type 0} (s : Seating) (xs : List T) → Whole (seen s xs)
-whole_seen s xs = record {
-  below = λ r c h. inside_below s.down.count s.across.count r c (slice_get xs (spot_of s r c)) h;
-  right = λ r c h. inside_right s.down.count s.across.count r c (slice_get xs (spot_of s r c)) h;
-}
+whole_seen s xs = whole_inside s.down.count s.across.count (λ r c. slice_get xs (spot_of s r c))
 
 pub seen_in : {T : Type 0} (s : Seating) (xs : List T) (r c : ℕ) → r < s.down.count → c < s.across.count → (seen s xs).cell r c ≡ slice_get xs (spot_of s r c)
 seen_in s xs r c hr hc = inside_in s.down.count s.across.count r c (slice_get xs (spot_of s r c)) hr hc
-
--- a list of the cells of row i is the row
-pub row_seen : {T : Type 0} (s : Seating) (xs : List T) (i : ℕ) (line : List T) → i < s.down.count → length line ≡ s.across.count → ((k : ℕ) → k < s.across.count → slice_get line k ≡ slice_get xs (spot_of s i k)) → line ≡ row i (seen s xs)
-row_seen s xs i line hi all taken =
-    sym (listed_nth line)
-    ∙ ap (λ n. listed n (slice_get line)) all
-    ∙ listed_same s.across.count (slice_get line) ((seen s xs).cell i)
-    (λ k. ⊎_elim
-    (λ (h : k < s.across.count). taken k h ∙ sym (seen_in s xs i k hi h))
-    (λ (h : s.across.count ≤ k). slice_get_past line k (omega arith) ∙ sym (inside_right s.down.count s.across.count i k (slice_get xs (spot_of s i k)) h))
-    (cases_lt k s.across.count))
 
 -- rows on one seat have their cells at one place
 same_spot : (old new : Seating) (r k c : ℕ) → new.lying ≡ old.lying → new.down.side ≡ old.down.side → new.across.table ≡ old.across.table → seat new.down r ≡ seat old.down k → spot_of new r c ≡ spot_of old k c
@@ -41,7 +25,7 @@ same_spot old new r k c x s t e =
     ∙ ap (λ z. spot old.lying old.down.side z (seat new.across c)) e
     ∙ ap (λ z. spot old.lying old.down.side (seat old.down k) (get_or z c 0)) t
 
-module _ {T : Type 0} (old new : Seating) (i : ℕ) (line xs ys : List T) (o : Opened old new i (length line)) (w : Written new i line (length line) xs ys)
+module _ {T : Type 0} (old new : Seating) (i : ℕ) (line xs ys : List T) (o : Opened old new i (length line)) (w : Written (spot_of new i) line (length line) xs ys)
     (hi : i ≤ old.down.count) (fits : 0 < old.down.count → length line ≡ old.across.count) (tall : old.down.count + 1 ≤ old.down.side) (wide : length line ≤ old.down.side) where
   moved : (r k c : ℕ) → r < new.down.count → k < old.down.count → c < length line → (r ≡ i → ⊥) → seat new.down r ≡ seat old.down k → slice_get ys (spot_of new r c) ≡ (seen old xs).cell k c
   moved r k c hr hk hc ne e =
@@ -72,13 +56,7 @@ closed_seen {T} old new i xs hi o = same_inside (seen new xs) (remove_row i m) (
     let rows = o.rows in
     let cols = o.cols in
     let stays = across_stays old.down.count old.across.count (omega arith) in
-    seen_in new xs r c hr hc ∙ ap (slice_get xs) (same_spot old new r (skipped i r) c o.lying o.side o.across (o.seats r (omega arith))) ∙ sym (seen_in old xs (skipped i r) c (skips r (omega arith)) (omega arith)))
+    seen_in new xs r c hr hc ∙ ap (slice_get xs) (same_spot old new r (skipped i r) c o.lying o.side o.across (o.seats r (omega arith))) ∙ sym (seen_in old xs (skipped i r) c (skipped_within i r old.down.count (omega arith)) (omega arith)))
   where
     m : Matrix T
     m = seen old xs
-
-    skips : (r : ℕ) → r < old.down.count - 1 → skipped i r < old.down.count
-    skips r h = ⊎_elim
-        (λ (l : r < i). omega (arith, skipped_below i r l))
-        (λ (l : i ≤ r). omega (arith, skipped_above i r l))
-        (cases_lt r i)

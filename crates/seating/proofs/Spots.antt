@@ -23,7 +23,7 @@ seats_apart s r c i j hr hc hi hj e =
     (s.down.below r hr) (let l = s.across.below c (omega arith) in omega arith) (s.down.below i hi) (let l = s.across.below j (omega arith) in omega arith) e in
     (s.down.once r i (hr, hi, p.0), s.across.once c j (omega arith, omega arith, p.1))
 
-pub written_more : {T : Type 0} (s : Seating) (i : ℕ) (line : List T) (n : ℕ) (xs ys : List T) (x : T) → i < s.down.side → n < s.down.side → spot_of s i n < length xs → slice_get line n ≡ Some x → Written s i line n xs ys → Written s i line (n + 1) xs (set ys (spot_of s i n) x)
+pub written_more : {T : Type 0} (s : Seating) (i : ℕ) (line : List T) (n : ℕ) (xs ys : List T) (x : T) → i < s.down.side → n < s.down.side → spot_of s i n < length xs → slice_get line n ≡ Some x → Written (spot_of s i) line n xs ys → Written (spot_of s i) line (n + 1) xs (set ys (spot_of s i n) x)
 written_more s i line n xs ys x hi hn hk e w = record {
   len = length-set ys (spot_of s i n) x ∙ w.len;
   put = λ c h. ⊎_elim

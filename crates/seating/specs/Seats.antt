@@ -4,7 +4,7 @@ use Rattle.std.specs.List.{slice_get}
 use Rattle.matrix.specs.declared.limits.Limits.{Limits}
 use Rattle.matrix.specs.declared.axis.Axis.{Axis}
 use Rattle.matrix.specs.declared.axis.Axis.TheVariants.{Row, Col}
-use Rattle.matrix.specs.Axes.{other}
+use Rattle.matrix.specs.Axes.{other, pair}
 use Rattle.matrix.specs.Matrix.{Matrix, inside, spliced, skipped, left_across}
 use Rattle.seating.specs.declared.bench.Bench.{Bench}
 use Rattle.seating.specs.declared.seating.Seating.{Seating}
@@ -12,8 +12,7 @@ use Rattle.seating.specs.Benches.{seat}
 
 -- the flat place of a row's seat a and a column's seat b, where the rows lie along an axis of the flat cells
 abbrev pub spot : Axis → ℕ → ℕ → ℕ → ℕ
-spot Row side a b = a * side + b
-spot Col side a b = b * side + a
+spot lying side a b = (pair lying a b).0 * side + (pair lying a b).1
 
 -- the flat place of row r and column c
 abbrev pub spot_of : Seating → ℕ → ℕ → ℕ

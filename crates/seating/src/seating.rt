@@ -15,6 +15,7 @@ pub mod places;
 pub struct Seating {
     pub(crate) down: Bench,
     pub(crate) across: Bench,
+    // kept: an `Axis`, as a call's and a board's facing, by which it is turned; an `Order` would say the same
     pub(crate) lying: Axis,
     ghost square: { across.side ≡ down.side },
     ghost no_rows: { (down.count ≡ 0 → across.count ≡ 0) },

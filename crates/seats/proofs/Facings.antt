@@ -3,9 +3,8 @@ use Rattle.std.proofs.Common.{◌≡◌, Ok, Err, Result, ap}
 use Rattle.cells.specs.Refusals.{answered}
 use Rattle.matrix.specs.declared.axis.Axis.{Axis}
 use Rattle.matrix.specs.declared.axis.Axis.TheVariants.{Row, Col}
-use Rattle.matrix.specs.Axes.{along}
+use Rattle.matrix.specs.Axes.{along, beneath}
 use Rattle.matrix.specs.Matrix.{Matrix, turned}
-use Rattle.seats.specs.Boards.{beneath}
 
 pub faced : {T A E : Type 0} (F : Matrix T → Matrix T) (facing ax : Axis) (r : Result A E) (m n : Matrix T) → n ≡ answered r (along (beneath facing ax) (F (along (beneath facing ax) m))) m → along facing n ≡ answered r (along ax (F (along ax (along facing m)))) (along facing m)
 faced F Row ax r m n p = p

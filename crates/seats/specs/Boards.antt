@@ -3,9 +3,7 @@ use Rattle.std.specs.Prelude.{ℕ, ◌*◌, ◌||◌, length, Result, nat_lt}
 use Rattle.cells.specs.declared.refusal.Refusal.{Refusal}
 use Rattle.cells.specs.Refusals.{refused, accepted, answered}
 use Rattle.matrix.specs.declared.limits.Limits.{Limits}
-use Rattle.matrix.specs.declared.axis.Axis.{Axis}
-use Rattle.matrix.specs.declared.axis.Axis.TheVariants.{Row, Col}
-use Rattle.matrix.specs.Axes.{other, along}
+use Rattle.matrix.specs.Axes.{along}
 use Rattle.matrix.specs.Matrix.{Matrix}
 use Rattle.matrix.specs.Rules.{side_limit}
 use Rattle.seats.specs.declared.board.SeatBoard.{SeatBoard}
@@ -19,16 +17,6 @@ matrix b = along b.facing (upright b)
 
 abbrev pub limits : {T : Type 0} → SeatBoard T → Limits
 limits b = seated_limits b.seats (length b.cells.now)
-
--- the axis of the tables that an axis of a board is, where the board's rows are the lines of the tables along `facing`
-abbrev pub beneath : Axis → Axis → Axis
-beneath Row ax = ax
-beneath Col ax = other ax
-
--- a row and a column of such a board as the tables have them, and back
-abbrev pub ordered : Axis → ℕ → ℕ → ℕ × ℕ
-ordered Row r c = (r, c)
-ordered Col r c = (c, r)
 
 -- A seat board of S rows and columns is asked for over N cells of memory.
 abbrev pub seats_answer : ℕ → ℕ → Result Unit Refusal

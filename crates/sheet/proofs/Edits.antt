@@ -2,12 +2,14 @@
 use Rattle.std.proofs.Common.{◌≡◌, ℕ, ◌-◌, ◌<◌, ◌≤◌, leb, true, false, List, [], ◌∷◌, ◌++◌, length, Some, None, Ok, Err, Option, Result, sym, refl, ap, ◌∙◌, subst, ⊎_elim, arith, le-ltb, lt-ltb}
 use Rattle.std.proofs.lemmas.Bool.{cases_lt}
 use Rattle.std.proofs.lemmas.Bool.Decides.{nat_tests}
+use Rattle.std.proofs.lemmas.Option.{none-some}
 use Rattle.cells.specs.declared.refusal.Refusal.{Refusal}
 use Rattle.cells.specs.declared.refusal.Refusal.TheVariants.{Keep, Place}
 use Rattle.cells.specs.Refusals.{answered, refused, accepted}
 use Rattle.matrix.specs.declared.limits.Limits.{Limits}
 use Rattle.matrix.specs.Matrix.{Matrix, Shaped, insert_row, put_cell}
 use Rattle.matrix.specs.Rules.{Within, put_answer, insert_answer}
+use Rattle.matrix.proofs.Along.{along_twice}
 use Rattle.keeps.specs.Kept.{Store, pushed, push_answer}
 use Rattle.matrix.specs.declared.axis.Axis.{Axis}
 use Rattle.sheet.specs.declared.edit.Edit.{Edit}
@@ -15,7 +17,8 @@ use Rattle.sheet.specs.declared.edit.Edit.TheVariants.{Put, Insert}
 use Rattle.matrix.specs.Axes.{along, inserted, insert_along}
 use Rattle.sheet.specs.Book.{Book, owed_limit, kept, full, lacks, entered, then, insert_said, insert_book, put_said, put_book, alone}
 use Rattle.sheet.specs.Stands.{Agrees}
-use Rattle.sheet.proofs.Undoes.{along_twice, insert_undone, met_at, met_wide, put_undone}
+use Rattle.matrix.proofs.Goes.{met_at, met_wide}
+use Rattle.sheet.proofs.Undoes.{insert_undone, put_undone}
 use Rattle.sheet.proofs.Agreements.{no_room, is_full, not_full, enter, accept, refuse, same_store, book_within}
 
 -- a check on numbers that are the board's
@@ -48,15 +51,11 @@ module _ {T : Type 0} {ko : Type 0} {m : Matrix T} {l : Limits} {k : Store T} {j
       cols = ap (λ (z : Matrix T). z.cols) (along_twice ax (insert_row i line (along ax b.matrix)))
 
 -- a place inside, and one outside, by what is read there
-abbrev Absent : {X : Type 0} → Option X → Type 0
-Absent None = Unit {0}
-Absent (Some x) = ⊥
-
 inside_row : {T : Type 0} (m : Matrix T) (s : Shaped m) (r c : ℕ) (x : T) → m.cell r c ≡ Some x → r < m.rows
-inside_row {T} m s r c x e = ⊎_elim (λ (h : r < m.rows). h) (λ (h : m.rows ≤ r). absurd (subst (λ (o : Option T). Absent o) (sym (s.below r c h) ∙ e) tt)) (cases_lt r m.rows)
+inside_row m s r c x e = ⊎_elim (λ (h : r < m.rows). h) (λ (h : m.rows ≤ r). absurd (none-some x (sym (s.below r c h) ∙ e))) (cases_lt r m.rows)
 
 inside_col : {T : Type 0} (m : Matrix T) (s : Shaped m) (r c : ℕ) (x : T) → m.cell r c ≡ Some x → c < m.cols
-inside_col {T} m s r c x e = ⊎_elim (λ (h : c < m.cols). h) (λ (h : m.cols ≤ c). absurd (subst (λ (o : Option T). Absent o) (sym (s.right r c h) ∙ e) tt)) (cases_lt c m.cols)
+inside_col m s r c x e = ⊎_elim (λ (h : c < m.cols). h) (λ (h : m.cols ≤ c). absurd (none-some x (sym (s.right r c h) ∙ e))) (cases_lt c m.cols)
 
 put_in : {T : Type 0} (m : Matrix T) (r c : ℕ) → r < m.rows → c < m.cols → put_answer r c m ≡ Ok tt
 put_in m r c hr hc = grind (arith, nat_tests)
@@ -68,7 +67,7 @@ put_out m r c ne = ⊎_elim
     (cases_lt r m.rows)
 
 outside : {T : Type 0} (m : Matrix T) (s : Shaped m) (r c : ℕ) → m.cell r c ≡ None → r < m.rows → c < m.cols → ⊥
-outside {T} m s r c e hr hc = let q = s.full r c hr hc in subst (λ (o : Option T). Absent o) (sym e ∙ q.1) tt
+outside m s r c e hr hc = let q = s.full r c hr hc in none-some q.0 (sym e ∙ q.1)
 
 -- what a push answers, read on the count
 push_stops : {T : Type 0} (k : Store T) (e : Refusal) → Err e ≡ push_answer k → (k.most ≤ length k.cells) × (e ≡ Keep)

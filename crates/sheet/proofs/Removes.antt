@@ -7,6 +7,7 @@ use Rattle.cells.specs.Refusals.{answered, refused, accepted}
 use Rattle.matrix.specs.declared.limits.Limits.{Limits}
 use Rattle.matrix.specs.Matrix.{Matrix, over}
 use Rattle.matrix.specs.Rules.{Within, remove_answer}
+use Rattle.matrix.proofs.Along.{within_along}
 use Rattle.matrix.proofs.Undo.{row_length}
 use Rattle.keeps.specs.Kept.{Store, holding}
 use Rattle.matrix.specs.declared.axis.Axis.{Axis}
@@ -15,7 +16,7 @@ use Rattle.sheet.specs.declared.edit.Edit.TheVariants.{Remove}
 use Rattle.matrix.specs.Axes.{along, removed, line_of, remove_along}
 use Rattle.sheet.specs.Book.{Book, owed_limit, kept, full, lacks, entered, then, remove_said, remove_book, remove_memory}
 use Rattle.sheet.specs.Stands.{Agrees}
-use Rattle.sheet.proofs.Undoes.{along_within, remove_undone, back_again}
+use Rattle.sheet.proofs.Undoes.{remove_undone, back_again}
 use Rattle.sheet.proofs.Agreements.{no_room, is_full, not_full, enter, accept, refuse, book_within}
 
 pub checked_out : {T : Type 0} (q : Result Unit Refusal) (i n : ℕ) (p : ℕ × ℕ) (m : Matrix T) → q ≡ remove_answer i n p.0 p.1 → q ≡ Ok tt → p ≡ (m.rows, m.cols) → Ok tt ≡ remove_answer i n m.rows m.cols
@@ -66,7 +67,7 @@ module _ {T : Type 0} {ko : Type 0} {m : Matrix T} {l : Limits} {k : Store T} {j
   pub remove_accepted : {ko' : Type 0} {m' : Matrix T} {l' : Limits} {k' : Store T} {js' : List Edit} (n : ℕ) → length js < owed_limit → (along ax m).cols ≤ k.most - length k.cells → ko' → m' ≡ removed ax i m → l' ≡ l → k' ≡ holding (k.cells ++ line_of ax i m) k → n ≡ (along ax m).cols → js' ≡ js ++ (Remove ax i n ∷ []) → (Ok tt ≡ remove_said ax i memory b) × Agrees ko' m' l' k' js' (remove_book ax i memory b)
   remove_accepted n p q ko' em el ek en ej =
       let v = book_within h w in
-      let u = along_within ax b.limits b.matrix v in
+      let u = within_along ax v in
       let at = met_in i (length memory) (along ax b.matrix).rows (along ax b.matrix).cols booked in
       let cols = ap (λ z. (along ax z).cols) h.matrix in
       accept b (entered (Remove ax i (along ax b.matrix).cols) (removed ax i b.matrix) (line_of ax i b.matrix) b) (remove_said ax i memory b) (taken_said p q)

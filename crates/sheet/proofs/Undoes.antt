@@ -5,26 +5,18 @@ use Rattle.std.proofs.lemmas.Bool.Decides.{nat_tests}
 use Rattle.matrix.specs.declared.limits.Limits.{Limits}
 use Rattle.matrix.specs.Matrix.{Matrix, put_cell, insert_row, remove_row, row, flip_rows}
 use Rattle.matrix.specs.Rules.{Within, insert_answer, insert_row_answer}
-use Rattle.matrix.proofs.Held.{within_turned}
+use Rattle.matrix.proofs.Goes.{met_fits}
+use Rattle.matrix.proofs.Along.{along_twice, within_along}
 use Rattle.matrix.proofs.Undo.{remove_insert, insert_remove, row_length, flip_rows_twice}
 use Rattle.matrix.proofs.Whole.{same_matrix, whole_shaped, across_stays}
 use Rattle.matrix.specs.declared.axis.Axis.{Axis}
-use Rattle.matrix.specs.declared.axis.Axis.TheVariants.{Row, Col}
 use Rattle.matrix.specs.Axes.{along, inserted, removed, line_of, flipped, insert_along}
-
-pub along_twice : {T : Type 0} (ax : Axis) (m : Matrix T) → along ax (along ax m) ≡ m
-along_twice Row m = refl
-along_twice Col m = refl
-
-pub along_within : {T : Type 0} (ax : Axis) (l : Limits) (m : Matrix T) → Within l m → Within l (along ax m)
-along_within Row l m w = w
-along_within Col l m w = within_turned w
 
 -- a flip, flipped
 pub flip_undone : {T : Type 0} (ax : Axis) (l : Limits) (m : Matrix T) → Within l m → flipped ax (flipped ax m) ≡ m
 flip_undone ax l m w =
     ap (λ n. along ax (flip_rows n)) (along_twice ax (flip_rows (along ax m)))
-    ∙ ap (along ax) (flip_rows_twice (along ax m) (whole_shaped (along_within ax l m w).shaped))
+    ∙ ap (along ax) (flip_rows_twice (along ax m) (whole_shaped (within_along ax w).shaped))
     ∙ along_twice ax m
 
 -- a cell written and then written back
@@ -38,26 +30,17 @@ put_undone r c x old m e = same_matrix (put_cell r c old (put_cell r c x m)) m r
     here : (a b : ℕ) → a ≡ r → b ≡ c → (put_cell r c old (put_cell r c x m)).cell a b ≡ m.cell a b
     here a b p q = let z : (put_cell r c old (put_cell r c x m)).cell a b ≡ Some old = grind (arith, nat_tests) in z ∙ sym e ∙ ap (λ j. m.cell j c) (sym p) ∙ ap (λ j. m.cell a j) (sym q)
 
--- what an accepted insertion has met
-pub met_fits : (l : Limits) (i n count across : ℕ) → Ok tt ≡ insert_answer l i n count across → 0 < count → n ≡ across
-met_fits l i n count across e h = grind (arith, nat_tests)
-
-pub met_at : (l : Limits) (i n count across : ℕ) → Ok tt ≡ insert_answer l i n count across → i ≤ count
-met_at l i n count across e = grind (arith, nat_tests)
-
-pub met_wide : (l : Limits) (i n count across : ℕ) → Ok tt ≡ insert_answer l i n count across → n ≤ l.side
-met_wide l i n count across e = grind (arith, nat_tests)
-
+-- an insertion, undone
 pub insert_undone : {T : Type 0} (ax : Axis) (i : ℕ) (line : List T) (l : Limits) (m : Matrix T) → Within l m → Ok tt ≡ insert_along l ax i line m → removed ax i (inserted ax i line m) ≡ m
 insert_undone ax i line l m w e =
     ap (λ n. along ax (remove_row i n)) (along_twice ax (insert_row i line (along ax m)))
-    ∙ ap (along ax) (remove_insert i line (along ax m) (along_within ax l m w).shaped (met_fits l i (length line) (along ax m).rows (along ax m).cols e))
+    ∙ ap (along ax) (remove_insert i line (along ax m) (within_along ax w).shaped (met_fits l i (length line) (along ax m).rows (along ax m).cols e))
     ∙ along_twice ax m
 
 pub remove_undone : {T : Type 0} (ax : Axis) (i : ℕ) (l : Limits) (m : Matrix T) → Within l m → i < (along ax m).rows → inserted ax i (line_of ax i m) (removed ax i m) ≡ m
 remove_undone ax i l m w h =
     ap (λ n. along ax (insert_row i (line_of ax i m) n)) (along_twice ax (remove_row i (along ax m)))
-    ∙ ap (along ax) (insert_remove i (along ax m) (along_within ax l m w).shaped h)
+    ∙ ap (along ax) (insert_remove i (along ax m) (within_along ax w).shaped h)
     ∙ along_twice ax m
 
 -- the line that went can be put back
@@ -70,7 +53,7 @@ accepts l i n count across some fits at tall wide room = ⊎_elim
 pub back_again : {T : Type 0} (ax : Axis) (i : ℕ) (l : Limits) (m : Matrix T) → Within l m → i < (along ax m).rows → insert_along l ax i (line_of ax i m) (removed ax i m) ≡ Ok tt
 back_again {T} ax i l m w h =
     ap (λ n. insert_row_answer l i (line_of ax i m) n) (along_twice ax (remove_row i (along ax m)))
-    ∙ again (along ax m) (along_within ax l m w) h
+    ∙ again (along ax m) (within_along ax w) h
   where
     again : (n : Matrix T) → Within l n → i < n.rows → insert_row_answer l i (row i n) (remove_row i n) ≡ Ok tt
     again n v at =

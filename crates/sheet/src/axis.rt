@@ -11,9 +11,5 @@ pub(crate) fn lines<B: Board>(b: &B, axis: Axis) -> (usize, usize)
     ensures answer { result ≡ ((along axis (B.matrix b.now)).rows, (along axis (B.matrix b.now)).cols) }
 {
     let (rows, cols) = b.size();
-    // kept: a pair of two numbers or the same turned, and no step to run
-    match axis {
-        Axis::Row => (rows, cols),
-        Axis::Col => (cols, rows),
-    }
+    axis.pair(rows, cols)
 }

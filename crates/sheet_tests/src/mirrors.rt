@@ -1,12 +1,13 @@
 // A list on one sheet and its exchange on another, over boards and keeps of other kinds.
 use boards::board::Board;
+use flat::segment::Segment;
 use grid::grid::Grid;
 use keeps::joined::JoinedKeep;
 use keeps::keep::Keep;
 use keeps::stack::StackKeep;
 use matrix::axis::Axis;
 use matrix::shape::Order;
-use replay::call::{Answer, Call, Segment};
+use replay::call::{Answer, Call};
 use replay::mirror::replay_both;
 use seats::board::SeatBoard;
 use std::process::Abort;

@@ -5,17 +5,12 @@ use Rattle.cells.specs.declared.refusal.Refusal.{Refusal}
 use Rattle.cells.specs.Refusals.{answered, refused}
 use Rattle.matrix.specs.declared.limits.Limits.{Limits}
 use Rattle.matrix.specs.Matrix.{Matrix, insert_row, remove_row, row, over}
-use Rattle.matrix.specs.Rules.{Within, insert_answer, insert_row_answer, remove_answer, remove_row_answer}
+use Rattle.matrix.specs.Rules.{Within, insert_row_answer, remove_answer, remove_row_answer}
 use Rattle.matrix.specs.declared.axis.Axis.{Axis}
 use Rattle.matrix.specs.Axes.{along, inserted, removed, line_of, insert_along, remove_along}
+use Rattle.matrix.proofs.Goes.{met_at, met_fits}
 use Rattle.matrix.proofs.Along.{along_twice, within_along}
 use Rattle.matrix.proofs.Undo.{remove_insert, row_insert}
-
-fits : (l : Limits) (i n count across : ℕ) → Ok tt ≡ insert_answer l i n count across → 0 < count → n ≡ across
-fits l i n count across e h = grind (arith, nat_tests)
-
-inside : (l : Limits) (i n count across : ℕ) → Ok tt ≡ insert_answer l i n count across → i ≤ count
-inside l i n count across e = grind (arith, nat_tests)
 
 taken : (i n count across : ℕ) → i < count → across ≤ n → Ok tt ≡ remove_answer i n count across
 taken i n count across h k = grind (arith, nat_tests)
@@ -32,7 +27,7 @@ module _ {T : Type 0} (ax : Axis) (l : Limits) (i : ℕ) (line mem zs : List T) 
   there = ap (along ax) (re ∙ ap (λ a. answered a (inserted ax i line m) m) ok) ∙ along_twice ax (insert_row i line (along ax m))
 
   out : q ≡ Ok tt
-  out = qa ∙ ap (remove_row_answer i mem) there ∙ sym (taken i (length mem) ((along ax m).rows + 1) (length line) (let h = inside l i (length line) (along ax m).rows (along ax m).cols accepted in omega arith) long)
+  out = qa ∙ ap (remove_row_answer i mem) there ∙ sym (taken i (length mem) ((along ax m).rows + 1) (length line) (let h = met_at l i (length line) (along ax m).rows (along ax m).cols accepted in omega arith) long)
 
   pub back_answer : q ≡ refused 9 (ltb (length mem) (length line)) (insert_along l ax i line m)
   back_answer = out ∙ accepted ∙ first (insert_along l ax i line m)
@@ -42,7 +37,7 @@ module _ {T : Type 0} (ax : Axis) (l : Limits) (i : ℕ) (line mem zs : List T) 
 
   pub back_effect : m₂ ≡ m
   back_effect = qe ∙ ap (λ a. answered a (removed ax i m₁) m₁) out ∙ ap (λ n. along ax (remove_row i n)) there
-      ∙ ap (along ax) (remove_insert i line (along ax m) (within_along ax w).shaped (fits l i (length line) (along ax m).rows (along ax m).cols accepted))
+      ∙ ap (along ax) (remove_insert i line (along ax m) (within_along ax w).shaped (met_fits l i (length line) (along ax m).rows (along ax m).cols accepted))
       ∙ along_twice ax m
 
   pub back_line : zs ≡ answered q (over line mem) mem

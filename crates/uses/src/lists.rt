@@ -1,16 +1,17 @@
 // Lists of board calls.
 use cells::refusal::Refusal;
+use flat::segment::Segment;
 use matrix::axis::Axis;
 
 pub mod runs;
 
-// One call of a board. A line is a stretch of a list's cells: where it begins and how long it is.
+// One call of a board. A line that goes in is a segment of the list's cells.
 #[derive(Clone, Copy, Debug, PartialEq, Eq)]
 pub enum Call<T> {
     Size,
     Get(usize, usize),
     Put(usize, usize, T),
-    Insert(Axis, usize, usize, usize),
+    Insert(Axis, usize, Segment),
     Remove(Axis, usize),
     Transpose,
     Flip(Axis),

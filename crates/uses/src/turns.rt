@@ -1,5 +1,6 @@
 // A call along an axis is the call along the other between two transpositions, on any board.
-// kept: `limits` as on the calls of a board, and a board, an axis and an index as those take them.
+// kept: `limits` on each call, since it speaks of a board before and after the call, and an invariant speaks of one value. An
+// axis and an index come as a board's own calls take them; a struct would be built for this call and taken apart in it.
 ghost use Rattle.std.specs.Prelude.{◌≡◌};
 ghost use Rattle.cells.specs.Refusals.{answered};
 ghost use Rattle.matrix.specs.Matrix.{Matrix, over};

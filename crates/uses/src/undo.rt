@@ -1,4 +1,6 @@
 // A line that goes in and comes out again, on any board.
+// kept: `limits` on the call, since it speaks of a board before and after it, and an invariant speaks of one value. An axis and an
+// index come as a board's own calls take them; a struct would be built for this call and taken apart in it.
 ghost use Rattle.std.specs.Prelude.{◌≡◌, length, nat_lt};
 ghost use Rattle.cells.specs.Refusals.{answered, refused};
 ghost use Rattle.matrix.specs.Matrix.{Matrix, over};

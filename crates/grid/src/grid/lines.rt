@@ -72,22 +72,16 @@ impl<'a, T: Copy> Grid<'a, T> {
         self.remove(axis, last, memory)
     }
 
-    // Line i along the axis goes, and nobody takes it; false where there is none.
-    // kept: a bool, since there is one way to say no, and users know the two calls that stand over it as such.
-    pub fn delete(&mut self, axis: Axis, i: usize) -> bool
-        ensures answer { result ≡ is_ok (delete_along axis i (matrix self.old)) }
-        ensures effect { matrix self.new ≡ (if result then removed axis i (matrix self.old) else matrix self.old) }
+    // Line i along the axis goes, and nobody takes it.
+    pub fn delete(&mut self, axis: Axis, i: usize) -> Result<(), Refusal>
+        ensures answer { result ≡ delete_along axis i (matrix self.old) }
+        ensures effect { matrix self.new ≡ answered result (removed axis i (matrix self.old)) (matrix self.old) }
         ensures stays { Stays self.old self.new }
-        ensures kept { (if result then stored self.old else stored self.new) ≡ stored self.old }
+        ensures kept { Kept result (stored self.old) (stored self.new) }
     {
         let shape = self.shape;
-        match calls::delete(self.cells, shape, axis, i) {
-            Ok(new) => {
-                self.shape = new;
-                true
-            }
-            Err(_) => false,
-        }
+        self.shape = calls::delete(self.cells, shape, axis, i)?;
+        Ok(())
     }
 
     // kept: rows and columns by the names that users of a grid know, a line each over the call along an axis.
@@ -175,7 +169,7 @@ impl<'a, T: Copy> Grid<'a, T> {
         self.pop(Axis::Col, memory)
     }
 
-    // kept: these two say a bool, as `delete` does.
+    // kept: a bool, since these two names have the original's answers; `delete` says which refusal it is.
     // Row i goes, and nobody takes it; false where there is none.
     pub fn delete_row(&mut self, i: usize) -> bool
         ensures answer { result ≡ is_ok (delete_row_answer i (matrix self.old)) }
@@ -183,7 +177,7 @@ impl<'a, T: Copy> Grid<'a, T> {
         ensures stays { Stays self.old self.new }
         ensures kept { (if result then stored self.old else stored self.new) ≡ stored self.old }
     {
-        self.delete(Axis::Row, i)
+        self.delete(Axis::Row, i).is_ok()
     }
 
     // Column i goes, and nobody takes it; false where there is none.
@@ -193,6 +187,6 @@ impl<'a, T: Copy> Grid<'a, T> {
         ensures stays { Stays self.old self.new }
         ensures kept { (if result then stored self.old else stored self.new) ≡ stored self.old }
     {
-        self.delete(Axis::Col, i)
+        self.delete(Axis::Col, i).is_ok()
     }
 }

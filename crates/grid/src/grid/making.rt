@@ -1,4 +1,5 @@
 // Making a grid, in two calls: a check that may refuse, and a making that never does.
+// kept: no `Result` of a making, since by the rules a grid always stands over the memory that is lent, empty where refused.
 // kept: sides and an order come one by one, since a `Shape` has invariants, and these numbers are still to be checked.
 ghost use Rattle.std.specs.Prelude.{◌≡◌, ℕ, ◌*◌, ◌≤◌, length, take};
 ghost use Rattle.matrix.specs.declared.shape.Order.TheVariants.{RowMajor};
@@ -27,13 +28,7 @@ pub fn from_vec_check(memory: usize, n: usize, cols: usize) -> Result<(), Refusa
     if cols == 0 || n % cols != 0 {
         return Err(Refusal::Ragged);
     }
-    if SIDE < n / cols || SIDE < cols {
-        return Err(Refusal::Side);
-    }
-    if memory < n {
-        return Err(Refusal::Full);
-    }
-    Ok(())
+    new_check(memory, n / cols, cols)
 }
 
 // Whether a memory has room for rows × cols cells.
@@ -112,6 +107,7 @@ impl<'a, T: Copy> Grid<'a, T> {
     }
 
     // The same in row-major order.
+    // kept: this and `new` differ from the calls with an order by a value, and are the names that users of a grid know.
     pub fn from_vec(cells: &'a mut [T], n: usize, cols: usize) -> Grid<'a, T>
         ensures effect { matrix result ≡ from_vec RowMajor n cols cells.old }
         ensures over { Over RowMajor cells.entry result }

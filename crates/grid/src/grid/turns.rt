@@ -1,5 +1,5 @@
 // The calls that turn a grid and flip it.
-// kept: `stays` and `crosses` on each, as on the calls that change lines.
+// kept: `stays` and `crosses` stand on each call, since they speak of a grid before and after it, and no invariant does.
 ghost use Rattle.std.specs.Prelude.{◌≡◌};
 ghost use Rattle.matrix.specs.Matrix.{turned, flip_rows, flip_cols, rotate_left, rotate_right, rotate_half};
 ghost use Rattle.matrix.specs.Axes.{flipped};

@@ -1,7 +1,8 @@
 // A stack over lent memory is a keep.
 ghost use Rattle.std.specs.Prelude.{◌≡◌, ℕ, ◌≤◌, min, [], length};
 ghost use Rattle.matrix.specs.Rules.{cell_limit};
-ghost use Rattle.matrix.proofs.Stores.{capped, taken_within};
+ghost use Rattle.std.proofs.Math.Nat.{min-le_right};
+ghost use Rattle.matrix.proofs.Stores.{taken_within};
 ghost use Rattle.keeps.specs.Stacks.{used, stacked};
 
 use crate::keep::Keep;
@@ -40,7 +41,7 @@ impl<'a, T: Copy> Keep for StackKeep<'a, T> {
     // A stack is always in order.
     ghost ordered = { λ _. Unit {0} };
 
-    ghost small = { λ k. record { most = capped (length k.cells.now) cell_limit } };
+    ghost small = { λ k. record { most = min-le_right (length k.cells.now) cell_limit } };
 
     ghost within = { λ k _. record { cells = taken_within k.cells.now k.used cell_limit } };
 

@@ -4,7 +4,6 @@ ghost use Rattle.matrix.specs.Matrix.{over};
 ghost use Rattle.replay.specs.Laws.{exchange};
 
 use crate::call::Call;
-use flat::calls::poke;
 
 impl<T: Copy> Call<T> {
     // kept: rows and columns change places in its numbers too, which no derive says.
@@ -33,9 +32,10 @@ impl<T: Copy> Call<T> {
 pub(crate) fn exchange_all<T: Copy>(calls: &[Call<T>], exchanged: &mut [Call<T>])
     ensures effect { exchanged.new ≡ over (map exchange (take (length exchanged.old) calls.now)) exchanged.old }
 {
-    // kept: of a zip with exchanged.iter_mut() a proof knows no element after the loop
-    let n = calls.len().min(exchanged.len());
-    for (k, call) in calls[..n].iter().enumerate() {
-        poke(exchanged, k, call.exchanged());
+    // kept: an index beside the places: tried by `zip` with `iter_mut`, after which a proof knows nothing of what was written.
+    for (k, place) in exchanged.iter_mut().enumerate() {
+        if let Some(call) = calls.get(k) {
+            *place = call.exchanged();
+        }
     }
 }

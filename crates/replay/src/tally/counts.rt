@@ -23,6 +23,7 @@ impl<T: Copy> Call<T> {
 
 impl<T: Copy> Answer<T> {
     // 1 where the call was accepted.
+    // kept: this and `told` are numbers, since they are added to the counts, and the definitions speak of the same numbers
     fn granted(self) -> usize
         ensures answer { result ≡ granted self }
     {

@@ -41,52 +41,41 @@ fn turn_front(t: &mut [u16], n: usize)
 impl Bench {
     // Line i takes the first free seat; later lines move by one.
     // kept: that the side stays is one equation, and a word for it would be no shorter.
-    pub(crate) fn opened(self, i: usize) -> Bench
+    pub(crate) fn opened(mut self, i: usize) -> Bench
         requires at { i ≤ self.count }
         requires room { self.count < self.side }
         ensures seats { (k : ℕ) → k < self.count + 1 → seat result k ≡ spliced i (seat self self.count) (λ j. seat self j) k }
         ensures count { result.count ≡ self.count + 1 }
         ensures side { result.side ≡ self.side }
     {
-        let mut table = self.table;
-        shift_in(&mut table, i, self.count);
-        // kept: all fields by name here and below, since `..self` is not taken at a struct with ghost fields
-        Bench {
-            side: self.side,
-            count: self.count + 1,
-            table,
-        }
+        let n = self.count;
+        shift_in(&mut self.table, i, n);
+        self.count = n + 1;
+        self
     }
 
     // Line i goes, and its seat is the first that is free.
-    pub(crate) fn closed(self, i: usize) -> Bench
+    pub(crate) fn closed(mut self, i: usize) -> Bench
         requires at { i < self.count }
         ensures seats { (k : ℕ) → k < self.count - 1 → seat result k ≡ seat self (skipped i k) }
         ensures count { result.count ≡ self.count - 1 }
         ensures side { result.side ≡ self.side }
     {
-        let mut table = self.table;
-        shift_out(&mut table, i, self.count - 1);
-        Bench {
-            side: self.side,
-            count: self.count - 1,
-            table,
-        }
+        let n = self.count - 1;
+        shift_out(&mut self.table, i, n);
+        self.count = n;
+        self
     }
 
     // The first n seats are taken.
-    pub(crate) fn counted(self, n: usize) -> Bench
+    pub(crate) fn counted(mut self, n: usize) -> Bench
         requires room { n ≤ self.side }
         ensures seats { result.table ≡ self.table }
         ensures count { result.count ≡ n }
         ensures side { result.side ≡ self.side }
     {
-        let table = self.table;
-        Bench {
-            side: self.side,
-            count: n,
-            table,
-        }
+        self.count = n;
+        self
     }
 
     // The lines end for end, in place.

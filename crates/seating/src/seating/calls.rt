@@ -8,6 +8,7 @@ ghost use Rattle.seating.specs.Seats.{spot_of, counted, seated_limits, spots, be
 use crate::bench::Bench;
 use crate::seating::Seating;
 use matrix::axis::Axis;
+use matrix::checks::left_across;
 use matrix::limits::Limits;
 
 impl Seating {
@@ -15,14 +16,11 @@ impl Seating {
     pub(crate) fn along(self, axis: Axis) -> Seating
         ensures answer { Faced axis self result }
     {
-        // kept: each arm is another seating, and no step to hand over
-        match axis {
-            Axis::Row => self,
-            Axis::Col => Seating {
-                down: self.across,
-                across: self.down,
-                lying: self.lying.other(),
-            },
+        let (down, across) = axis.pair(self.down, self.across);
+        Seating {
+            down,
+            across,
+            lying: self.lying.beneath(axis),
         }
     }
 
@@ -46,11 +44,7 @@ impl Seating {
         requires at { i < self.down.count }
         ensures effect { Closed self result i }
     {
-        let columns = if self.down.count == 1 {
-            0
-        } else {
-            self.across.count
-        };
+        let columns = left_across(self.down.count, self.across.count);
         Seating {
             down: self.down.closed(i),
             across: self.across.counted(columns),
@@ -133,9 +127,7 @@ impl Seating {
     {
         let a = self.down.table[r] as usize;
         let b = self.across.table[c] as usize;
-        match self.lying {
-            Axis::Row => a * self.down.side + b,
-            Axis::Col => b * self.down.side + a,
-        }
+        let (a, b) = self.lying.pair(a, b);
+        a * self.down.side + b
     }
 }

@@ -1,8 +1,9 @@
 // Lines of cells that go onto seats, and come off them.
 ghost use Rattle.std.specs.Prelude.{◌≡◌, ◌*◌, ◌<◌, ◌≤◌, length};
+ghost use Rattle.matrix.specs.declared.axis.Axis.TheVariants.{Row};
 ghost use Rattle.matrix.specs.Matrix.{Matrix, row, over};
 ghost use Rattle.seating.specs.Seats.{seen};
-ghost use Rattle.seating.specs.Lines.{Written};
+ghost use Rattle.seating.specs.Lines.{Written, line_spots};
 
 use crate::seating::Seating;
 
@@ -11,7 +12,7 @@ pub(crate) fn write_row<T: Copy>(s: &mut [T], seats: &Seating, i: usize, line: &
     requires at { i < seats.now.down.side }
     requires wide { length line.now ≤ seats.now.down.side }
     requires room { seats.now.down.side * seats.now.down.side ≤ length s.old }
-    ensures effect { Written seats.now i line.now (length line.now) s.old s.new }
+    ensures effect { Written (line_spots Row i seats.now) line.now (length line.now) s.old s.new }
 {
     for (c, x) in line.iter().enumerate() {
         s[seats.spot(i, c)] = *x;

@@ -10,10 +10,5 @@ use flat::calls::peek;
 pub fn seated_at<T: Copy>(s: &[T], seats: &Seating, r: usize, c: usize) -> Option<T>
     ensures answer { result ≡ (seated seats.now s.now).cell r c }
 {
-    let (rows, cols) = seats.size(s.len());
-    if r < rows && c < cols {
-        peek(s, seats.spot(r, c))
-    } else {
-        None
-    }
+    peek(s, seats.place(s.len(), r, c)?)
 }

@@ -5,7 +5,6 @@ ghost use Rattle.matrix.specs.Matrix.{Matrix};
 ghost use Rattle.seating.specs.Seats.{spots};
 ghost use Rattle.seating.proofs.Owes.{along_within};
 ghost use Rattle.seats.specs.Boards as boards;
-ghost use Rattle.seats.specs.Boards.{beneath, ordered};
 
 use crate::board::SeatBoard;
 use boards::board::Board;
@@ -16,32 +15,12 @@ use matrix::limits::Limits;
 use seating::seating::places::seated_at;
 
 impl<'a, T: Copy> SeatBoard<'a, T> {
-    // The axis of the tables that the board's axis is.
-    fn beneath(&self, axis: Axis) -> Axis
-        ensures answer { result ≡ beneath self.now.facing axis }
-    {
-        match self.facing {
-            Axis::Row => axis,
-            Axis::Col => axis.other(),
-        }
-    }
-
     // kept: r and c, and axis and i below, as the interface names them; a struct would be made for each call.
-    // A row and a column of the board as the tables have them, and back.
-    fn ordered(&self, r: usize, c: usize) -> (usize, usize)
-        ensures answer { result ≡ ordered self.now.facing r c }
-    {
-        match self.facing {
-            Axis::Row => (r, c),
-            Axis::Col => (c, r),
-        }
-    }
-
     // The flat place of row r and column c, absent outside.
     fn place(&self, r: usize, c: usize) -> Option<usize>
         ensures answer { result ≡ (along self.now.facing (spots self.now.seats (length self.now.cells.now))).cell r c }
     {
-        let (row, col) = self.ordered(r, c);
+        let (row, col) = self.facing.pair(r, c);
         self.seats.place(self.cells.len(), row, col)
     }
 }
@@ -57,7 +36,7 @@ impl<'a, T: Copy> Board for SeatBoard<'a, T> {
 
     fn size(&self) -> (usize, usize) {
         let (rows, cols) = self.seats.size(self.cells.len());
-        self.ordered(rows, cols)
+        self.facing.pair(rows, cols)
     }
 
     fn bounds(&self) -> Limits {
@@ -65,7 +44,7 @@ impl<'a, T: Copy> Board for SeatBoard<'a, T> {
     }
 
     fn get(&self, r: usize, c: usize) -> Option<T> {
-        let (row, col) = self.ordered(r, c);
+        let (row, col) = self.facing.pair(r, c);
         seated_at(self.cells, &self.seats, row, col)
     }
 
@@ -76,12 +55,12 @@ impl<'a, T: Copy> Board for SeatBoard<'a, T> {
     }
 
     fn insert(&mut self, axis: Axis, i: usize, line: &[T]) -> Result<(), Refusal> {
-        let beneath = self.beneath(axis);
+        let beneath = axis.beneath(self.facing);
         self.seat_line(beneath, i, line)
     }
 
     fn remove(&mut self, axis: Axis, i: usize, memory: &mut [T]) -> Result<(), Refusal> {
-        let beneath = self.beneath(axis);
+        let beneath = axis.beneath(self.facing);
         self.free_line(beneath, i, memory)
     }
 
@@ -91,7 +70,7 @@ impl<'a, T: Copy> Board for SeatBoard<'a, T> {
     }
 
     fn flip(&mut self, axis: Axis) {
-        let beneath = self.beneath(axis);
+        let beneath = axis.beneath(self.facing);
         self.seats.flip(beneath);
     }
 }

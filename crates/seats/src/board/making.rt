@@ -1,4 +1,5 @@
 // Making a seat board, in two calls: a check that may refuse, and a making that never does.
+// kept: no `Result` of the making, since by the rules a board always stands over the memory that is lent, with S = 0 where refused.
 ghost use Rattle.std.specs.Prelude.{◌≡◌, length};
 ghost use Rattle.matrix.specs.Matrix.{empty};
 ghost use Rattle.seats.specs.Boards.{matrix, limits, seats_answer, made_limits};

@@ -1,4 +1,5 @@
 // Stepping back.
+// kept: `Stands` in `Follows` and `Leaves`, as no `impl Model` gives the book, whose counts and earlier matrices no sheet stores.
 ghost use Rattle.std.specs.Prelude.{◌≡◌};
 ghost use Rattle.sheet.specs.Book.{back_said, back_book, back_memory};
 ghost use Rattle.sheet.specs.Sheets.{Follows, Leaves};

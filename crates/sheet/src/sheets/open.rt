@@ -1,4 +1,5 @@
 // The edits of an open sheet.
+// kept: `Stands` in `Follows` and `Leaves`, as no `impl Model` gives the book, whose counts and earlier matrices no sheet stores.
 ghost use Rattle.std.specs.Prelude.{◌≡◌};
 ghost use Rattle.sheet.specs.Book.{Book, fresh, put_said, put_book, insert_said, insert_book, remove_said, remove_book, remove_memory, plain_said, transpose_book, flip_book};
 ghost use Rattle.sheet.specs.Sheets.{Stands, Follows, Leaves};

@@ -1,4 +1,5 @@
 // Publishing, what a published sheet is asked, and reopening.
+// kept: `Stands` and `Closed` are premises, as no `impl Model` gives the book, whose counts and earlier matrices no sheet stores.
 ghost use Rattle.std.specs.Prelude.{◌≡◌, ℕ, length};
 ghost use Rattle.matrix.specs.Matrix.{Matrix};
 ghost use Rattle.sheet.specs.Book.{Book, settle};

@@ -1,4 +1,5 @@
 // What an open sheet is asked, and its end without publishing.
+// kept: `Stands` is a premise, as no `impl Model` gives the book, whose counts and earlier matrices no sheet stores.
 ghost use Rattle.std.specs.Prelude.{◌≡◌, length};
 ghost use Rattle.matrix.specs.Matrix.{Matrix};
 ghost use Rattle.sheet.specs.Book.{Book, kept};

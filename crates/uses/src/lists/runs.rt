@@ -1,20 +1,11 @@
 // Running a list of board calls, and two boards beside each other.
-// kept: `limits` as on the calls of a board.
+// kept: `limits` on each call, since it speaks of a board before and after the call, and an invariant speaks of one value.
 ghost use Rattle.std.specs.Prelude.{◌≡◌, ℕ, List, length, take};
 ghost use Rattle.matrix.specs.Matrix.{Matrix, over};
-ghost use Rattle.uses.specs.Lists.{State, stretch, reply, next, after, replies, Alike};
+ghost use Rattle.uses.specs.Lists.{State, reply, next, after, replies, Alike};
 
 use crate::lists::{Answer, Call};
 use boards::board::Board;
-
-// n cells from `from` on, or as many as there are.
-fn part<T>(lines: &[T], from: usize, n: usize) -> &[T]
-    ensures answer { result.now ≡ stretch lines.now from n }
-{
-    let from = from.min(lines.len());
-    let n = n.min(lines.len() - from);
-    &lines[from..from + n]
-}
 
 // Makes one call.
 fn one<B: Board>(
@@ -34,7 +25,7 @@ fn one<B: Board>(
         }
         Call::Get(r, c) => Answer::Cell(b.get(r, c)),
         Call::Put(r, c, x) => Answer::Said(b.put(r, c, x)),
-        Call::Insert(axis, i, from, n) => Answer::Said(b.insert(axis, i, part(lines, from, n))),
+        Call::Insert(axis, i, segment) => Answer::Said(b.insert(axis, i, segment.of(lines))),
         Call::Remove(axis, i) => Answer::Said(b.remove(axis, i, memory)),
         Call::Transpose => {
             b.transpose();
@@ -48,7 +39,8 @@ fn one<B: Board>(
 }
 
 // Makes the calls of a list in order, as many as there is room for answers, and writes the answers down.
-// kept: four slices; with the calls and the lines in one struct each clause says `list.entry.lines.now` for `lines.now`.
+// kept: a caller has each slice by itself; a struct of calls and lines would be built for this call and taken apart in it, and
+// each clause would say `list.entry.lines.now` for `lines.now`.
 pub fn run<B: Board>(
     b: &mut B,
     calls: &[Call<B::Cell>],
@@ -60,7 +52,7 @@ pub fn run<B: Board>(
     ensures effect { record { matrix = B.matrix b.new; memory = memory.new } ≡ after (B.limits b.old) lines.now (take (length answers.old) calls.now) (record { matrix = B.matrix b.old; memory = memory.old }) }
     ensures limits { B.limits b.new ≡ B.limits b.old }
 {
-    // kept: an index beside the answers, since after a `zip` with `iter_mut` nothing is known of what was written.
+    // kept: an index beside the answers: tried by `zip` with `iter_mut`, after which a proof knows nothing of what was written.
     for (k, answer) in answers.iter_mut().enumerate() {
         if let Some(call) = calls.get(k) {
             *answer = one(b, *call, lines, memory);

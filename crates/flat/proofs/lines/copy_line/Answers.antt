@@ -1,4 +1,4 @@
-use Rattle.std.proofs.Common.{◌≡◌, ℕ, ◌+◌, ◌*◌, subst, arith}
+use Rattle.std.proofs.Common.{◌≡◌, ℕ, ◌+◌, ◌*◌, take, length, length-take-le, subst, ◌∙◌, arith}
 use Rattle.matrix.specs.Shapes.{form}
 use Rattle.matrix.proofs.Gather.{Gathered}
 use Rattle.flat.proofs.Deletes.{copied_outer, gathered_inner}
@@ -13,8 +13,10 @@ returns-in-RowMajor g c =
 pub returns-after-loop-c : goal.returns-after-loop-c
 returns-after-loop-c g c =
     let s = c.args.shape in
-    let all : c.loop-c.c ≡ s.cols = omega arith in
+    let mem = c.args.memory.now in
+    let line = c.loop-c.x-items in
+    let all : length line ≡ s.cols = c.loop-c.invariant.len ∙ length-take-le s.cols mem c.requires.long in
     record {
       line = copied_column_major (form s) c.args.i c.args.s.now _ _ c.in-ColumnMajor.is
-          (gathered_inner _ _ _ s.cols s.rows c.args.i (omega arith) (omega arith) (subst (λ (k : ℕ). Gathered c.args.s.now c.args.memory.now c.loop-c.memory (λ k. k * s.rows + c.args.i) k) all c.loop-c.invariant));
+          (gathered_inner c.args.s.now mem line s.cols s.rows c.args.i (omega arith) c.requires.long (subst (λ (k : ℕ). Gathered c.args.s.now (take s.cols mem) line (λ k. k * s.rows + c.args.i) k) (let z : c.loop-c.c ≡ s.cols = omega (arith, all) in z) c.loop-c.invariant));
     }

@@ -14,7 +14,7 @@ returns-clause-effect g c =
     let f = form c.args.shape in
     let xs = c.args.s.now in
     let i = c.args.i in
-    ap (λ k. laid (record { rows = f.rows - 1; cols = k; order = f.order }) c.match-shape.s) c.across_left.ensures.answer ∙ elim c.match-shape.branch [
+    ap (λ k. laid (record { rows = f.rows - 1; cols = k; order = f.order }) c.match-shape.s) c.left_across.ensures.answer ∙ elim c.match-shape.branch [
       | in-RowMajor w ↦ ap (laid (deleted_form f)) w.s-is
           ∙ in_row_major (remove_row i) f (deleted_form f) xs _ w.in-RowMajor.is refl (removed_outer xs _ f.rows f.cols i (omega arith) w.slide.ensures.effect)
       | in-ColumnMajor+else-loop-c-test w ↦

@@ -1,33 +1,30 @@
-use Rattle.std.proofs.Common.{◌≡◌, ◌+◌, ◌<◌, min, length, take, sym, refl, ap, ◌∙◌, subst, arith, get_or-take, length-take, length-take-le}
-use Rattle.std.proofs.lemmas.Option.{slice_get_read}
-use Rattle.matrix.proofs.Stretches.{take_clipped}
-use Rattle.replay.specs.World.{Ran, after}
-use Rattle.replay.proofs.Runs.{ran_none, ran_more}
+use Rattle.std.proofs.Common.{◌≡◌, ◌+◌, length, take, Some, sym, ap, ◌∙◌, arith}
+use Rattle.std.proofs.lemmas.List.{set-get_or}
+use Rattle.std.proofs.lemmas.Option.{slice_get-get_or}
+use Rattle.replay.specs.World.{after}
+use Rattle.replay.proofs.Runs.{ran_none, ran_more, ran_past, ran_by}
 use Rattle.replay.proofs.lists.run.Goals as goal
+use Rattle.replay.proofs.lists.run.Goals.{in-Some, in_default}
 
-pub loop-i-init : goal.loop-i-init
-loop-i-init g c = λ w h m. ran_none g.B.Board g.K.Keep c.args.lines.now c.args.calls.now c.args.answers.now w c.args.state c.args.memory.now h m
+pub loop-k-init : goal.loop-k-init
+loop-k-init g c = λ w h m. ran_none g.B.Board g.K.Keep c.args.lines.now c.args.calls.now c.args.answers.now w c.args.state c.args.memory.now h m
 
-pub loop-i-preserved : goal.loop-i-preserved
-loop-i-preserved g c = λ w h m.
+pub loop-k-preserved : goal.loop-k-preserved
+loop-k-preserved g c = λ w h m.
     let a = c.args in
-    let l = c.loop-i in
+    let l = c.loop-k in
     let ran = l.invariant w h m in
-    let n = c.min-n.result in
-    let call = c.call-item.result in
-    let short : length (take n a.calls.now) ≡ n = length-take-le n a.calls.now (omega (arith, c.min-n.ensures)) in
-    let inside : l.i < n = omega (arith, c.loop-i-test.true, short) in
-    let made = c.step-next.ensures.steps (after a.lines.now (take l.i a.calls.now) w) ran.stands (sym ran.memory_is) in
-    let long : length c.step-next.new.memory ≡ length w.memory = omega (arith, ap length m, c.step-next.auto.memory, l.auto.memory) in
-    subst (λ z. Ran g.B.Board g.K.Keep c.step-next.result.0 c.step-next.new.memory a.answers.now z a.lines.now (take (l.i + 1) a.calls.now) w) (sym c.poke.ensures.effect)
-    (ran_more g.B.Board g.K.Keep a.lines.now a.calls.now a.answers.now w l.i c.step-next.result.0 l.state c.step-next.result.1 c.step-next.new.memory l.memory l.answers call
-    (slice_get_read a.calls.now _ l.i _ refl (omega (arith, inside, c.min-n.ensures)) (c.call-item.is ∙ get_or-take n a.calls.now l.i call inside)) (omega (arith, inside, c.min-n.ensures)) (omega (arith, inside, c.min-n.ensures)) made long ran)
-
-pub returns : goal.returns
-returns g c = record {
-  ran = λ w h m.
-      let a = c.args in
-      let l = c.loop-i in
-      let all : l.i ≡ min (length a.answers.now) (length a.calls.now) = omega (arith, c.min-n.ensures, length-take c.min-n.result a.calls.now) in
-      subst (λ z. Ran g.B.Board g.K.Keep l.state l.memory a.answers.now l.answers a.lines.now z w) (take_clipped a.calls.now (length a.answers.now) l.i all) (l.invariant w h m);
-}
+    elim c.match-get.branch [
+      | in-Some v ↦
+          let call = v.in-Some.call.now in
+          let found = v.in-Some.ensures.lookup in
+          let inside = found.3.0 in
+          let made = v.step.ensures.steps (after a.lines.now (take l.k a.calls.now) w) ran.stands (sym ran.memory_is) in
+          let long : length v.step.new.memory ≡ length w.memory = omega (arith, ap length m, v.step.auto.memory, l.auto.memory) in
+          ran_by g.B.Board g.K.Keep a.lines.now a.calls.now a.answers.now w (take (l.k + 1) a.calls.now) v.state-is v.memory-is v.answers-is
+          (ran_more g.B.Board g.K.Keep a.lines.now a.calls.now a.answers.now w l.k v.step.result.0 l.state v.step.result.1 v.step.new.memory l.memory l.answers call
+          (slice_get-get_or a.calls.now l.k call inside ∙ ap Some (sym found.1)) inside (omega arith) made long ran)
+      | in_default v ↦
+          ran_by g.B.Board g.K.Keep a.lines.now a.calls.now a.answers.now w (take (l.k + 1) a.calls.now) v.state-is v.memory-is (v.answers-is ∙ set-get_or l.answers l.k _)
+          (ran_past g.B.Board g.K.Keep a.lines.now a.calls.now a.answers.now w l.k l.state l.memory l.answers v.in_default.ensures.lookup.3 ran)
+    ]

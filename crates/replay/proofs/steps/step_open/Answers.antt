@@ -1,10 +1,10 @@
-use Rattle.std.proofs.Common.{◌≡◌, ◌-◌, length, take, drop, Some, sym, refl, ap, ◌∙◌, subst}
+use Rattle.std.proofs.Common.{◌≡◌, length, Some, sym, refl, ap, ◌∙◌, subst}
 use Rattle.sheet.specs.Book.{kept, settle, put_said, put_book, insert_said, insert_book, remove_said, remove_book, remove_memory, plain_said, transpose_book, flip_book, back_said, back_book, back_memory}
 use Rattle.sheet.specs.Sheets.{Stands}
 use Rattle.replay.specs.declared.call.Answer.TheVariants.{Cell, Sized, Count}
 use Rattle.replay.specs.declared.call.State.TheVariants.{Published}
-use Rattle.replay.specs.World.{part, next, reply, by_stage}
-use Rattle.replay.proofs.Segments.{part_is, patched_is}
+use Rattle.flat.specs.Segments.{part}
+use Rattle.replay.specs.World.{next, reply, by_stage}
 use Rattle.replay.proofs.Worlds.{said_open, steps_to, steps_by, edit_said, lent_steps, asked, not_open}
 use Rattle.replay.proofs.steps.step_open.Goals as goal
 use Rattle.replay.proofs.steps.step_open.Goals.{in-Put, in-Insert, in-Remove, in-Transpose, in-Flip, in-StepBack, in-Get, in-Size, in-Owed, in-Kept, in-Reopen}
@@ -41,8 +41,7 @@ returns g c = record {
             (edit_said board keep v.put.new.self mem pool call w st m v.put.result (put_said i.r i.c) (put_book i.r i.c i.x) (ap (λ k. next pool k w) i.is) (ap (λ k. reply pool k w) i.is) (v.put.ensures.follows b h))
         | in-Insert v ↦
             let i = v.in-Insert in
-            let e = v.within in
-            let line = part_is pool i.segment e.result.start e.result.end e.ensures.start e.ensures.end in
+            let line = v.of.ensures.answer in
             steps_by board keep pool call w v.sheet-is v.answer-is v.memory-is
             (edit_said board keep v.insert.new.self mem pool call w st m v.insert.result (insert_said i.axis i.i (part pool i.segment)) (insert_book i.axis i.i (part pool i.segment)) (ap (λ k. next pool k w) i.is) (ap (λ k. reply pool k w) i.is)
             (subst (λ z. (v.insert.result ≡ insert_said i.axis i.i z b) × Stands board keep v.insert.new.self (insert_book i.axis i.i z b)) line (v.insert.ensures.follows b h)))
@@ -50,13 +49,8 @@ returns g c = record {
             let i = v.in-Remove in
             let e = v.within-range in
             steps_by board keep pool call w v.sheet-is v.answer-is v.memory-is
-            (lent_steps board keep v.remove.new.self v.remove.result mem _ pool call w st m
-            (remove_said i.axis i.i) (remove_book i.axis i.i) (remove_memory i.axis i.i) i.segment
-            (ap (λ k. next pool k w) i.is) (ap (λ k. reply pool k w) i.is)
-            (take (e.result.end - e.result.start) (drop e.result.start mem)) v.remove.new.memory
-            (part_is mem i.segment e.result.start e.result.end e.ensures.start e.ensures.end)
-            (patched_is mem i.segment e.result.start e.result.end e.ensures.start e.ensures.end v.remove.new.memory)
-            (v.remove.ensures.follows b h) (v.remove.ensures.leaves b h))
+            (lent_steps board keep v.remove.new.self v.remove.result mem pool call w st m (remove_said i.axis i.i) (remove_book i.axis i.i) (remove_memory i.axis i.i) i.segment e.result.start e.result.end e.ensures.start e.ensures.end
+            (ap (λ k. next pool k w) i.is) (ap (λ k. reply pool k w) i.is) v.remove.new.memory (v.remove.ensures.follows b h) (v.remove.ensures.leaves b h))
         | in-Transpose v ↦
             let i = v.in-Transpose in
             steps_by board keep pool call w v.sheet-is v.answer-is v.memory-is
@@ -69,13 +63,8 @@ returns g c = record {
             let i = v.in-StepBack in
             let e = v.within-range-in-StepBack in
             steps_by board keep pool call w v.sheet-is v.answer-is v.memory-is
-            (lent_steps board keep v.step_back.new.self v.step_back.result mem _ pool call w st m
-            back_said back_book back_memory i.segment
-            (ap (λ k. next pool k w) i.is) (ap (λ k. reply pool k w) i.is)
-            (take (e.result.end - e.result.start) (drop e.result.start mem)) v.step_back.new.memory
-            (part_is mem i.segment e.result.start e.result.end e.ensures.start e.ensures.end)
-            (patched_is mem i.segment e.result.start e.result.end e.ensures.start e.ensures.end v.step_back.new.memory)
-            (v.step_back.ensures.follows b h) (v.step_back.ensures.leaves b h))
+            (lent_steps board keep v.step_back.new.self v.step_back.result mem pool call w st m back_said back_book back_memory i.segment e.result.start e.result.end e.ensures.start e.ensures.end
+            (ap (λ k. next pool k w) i.is) (ap (λ k. reply pool k w) i.is) v.step_back.new.memory (v.step_back.ensures.follows b h) (v.step_back.ensures.leaves b h))
         | in-Get v ↦
             let i = v.in-Get in
             steps_by board keep pool call w v.sheet-is v.answer-is v.memory-is

@@ -2,8 +2,8 @@ use Rattle.std.proofs.Common.{ℕ, arith}
 use Rattle.seating.proofs.Tables.{came, came_in, came_apart, came_at, reseated_below, reseated_once}
 use Rattle.seating.proofs.bench.Bench.opened.Goals as goal
 
-pub invariant_of-result : goal.invariant_of-result
-invariant_of-result c =
+pub invariant_of-self : goal.invariant_of-self
+invariant_of-self c =
     let s = c.args.self in
     let i : ℕ = c.args.i in
     let u = c.shift_in.new.t in

@@ -1,19 +1,11 @@
 use Rattle.std.proofs.Common.{arith}
-use Rattle.matrix.specs.declared.axis.Axis.TheVariants.{Row, Col}
 use Rattle.seating.specs.Benches.{seat}
 use Rattle.seating.proofs.Owes.{spot_within}
 use Rattle.seating.proofs.seating.Seating.spot.Goals as goal
 
-pub returns-in-Row-clause-inside : goal.returns-in-Row-clause-inside
-returns-in-Row-clause-inside c =
+pub returns-clause-inside : goal.returns-clause-inside
+returns-clause-inside c =
     let s = c.args.self.now in
     let q = s.square in
     let b = s.across.below c.args.c (omega arith) in
-    spot_within Row s.down.side (seat s.down c.args.r) (seat s.across c.args.c) (s.down.below c.args.r (omega arith)) (omega arith)
-
-pub returns-in-Col-clause-inside : goal.returns-in-Col-clause-inside
-returns-in-Col-clause-inside c =
-    let s = c.args.self.now in
-    let q = s.square in
-    let b = s.across.below c.args.c (omega arith) in
-    spot_within Col s.down.side (seat s.down c.args.r) (seat s.across c.args.c) (s.down.below c.args.r (omega arith)) (omega arith)
+    rw c.pair-a.ensures.answer (spot_within s.lying s.down.side (seat s.down c.args.r) (seat s.across c.args.c) (s.down.below c.args.r (omega arith)) (omega arith))

@@ -21,5 +21,4 @@ returns-clause-effect g c =
 
 pub returns-clause-cells : goal.returns-clause-cells
 returns-clause-cells g c =
-    let w = c.write_row.ensures.effect in
-    faced_cells c.args.axis _ c.along.result c.args.i _ c.args.line.now c.args.s.now c.write_row.new.s c.along.ensures.answer (record { len = w.len; put = w.put; rest = w.rest })
+    faced_cells c.args.axis _ c.along.result c.args.i _ c.args.line.now c.args.s.now c.write_row.new.s c.along.ensures.answer c.write_row.ensures.effect

@@ -1,6 +1,7 @@
 use Rattle.std.proofs.Common.{ℕ, ◌+◌, ◌<◌, length, set, sym, refl, subst, arith}
 use Rattle.std.proofs.lemmas.Option.{slice_get_read}
 use Rattle.seating.specs.Lines.{Written}
+use Rattle.seating.specs.Seats.{spot_of}
 use Rattle.seating.proofs.Spots.{written_more}
 use Rattle.seating.proofs.seating.lines.write_row.Goals as goal
 
@@ -11,5 +12,5 @@ loop-c-preserved g c =
     let k = c.spot.ensures in
     let seats = a.seats.now in
     let n : ℕ = c.loop-c.c in
-    subst (λ (p : ℕ). Written seats a.i a.line.now (n + 1) a.s.now (set c.loop-c.s p x)) (sym k.answer)
+    subst (λ (p : ℕ). Written (spot_of seats a.i) a.line.now (n + 1) a.s.now (set c.loop-c.s p x)) (sym k.answer)
     (written_more seats a.i a.line.now n a.s.now c.loop-c.s x (omega arith) (omega arith) (subst (λ (p : ℕ). p < length a.s.now) k.answer (omega arith)) (slice_get_read a.line.now _ n _ refl (omega arith) c.index-line-c.is) c.loop-c.invariant)

@@ -1,11 +1,11 @@
 use Rattle.std.proofs.Common.{rules, ◌≡◌, ◌-◌, ◌≤◌, ◌++◌, length, take, drop, sym, ap, ◌∙◌, arith, take_at}
 use Rattle.cells.specs.Refusals.{answered}
 use Rattle.matrix.specs.Matrix.{over}
+use Rattle.matrix.proofs.Along.{within_along}
 use Rattle.matrix.proofs.Undo.{row_length}
 use Rattle.keeps.specs.Kept.{holding}
 use Rattle.matrix.specs.Axes.{along, removed, line_of}
 use Rattle.sheet.proofs.Agreements.{has_room}
-use Rattle.sheet.proofs.Undoes.{along_within}
 use Rattle.sheet.proofs.Removes.{checked_out, met_in, remove_no_journal, no_journal_memory, remove_no_keep, no_keep_memory, remove_accepted, accepted_memory}
 use Rattle.sheet.proofs.sheets.OpenSheet.remove.Goals as goal
 
@@ -50,7 +50,7 @@ returns g c =
     let out = c.remove.ensures in
     let yes = out.answer ∙ sym ok in
     let at = met_in i (length memory) (along ax m).rows (along ax m).cols ok in
-    let size = row_length i (along ax m) (along_within ax _ m w).shaped at in
+    let size = row_length i (along ax m) (within_along ax w).shaped at in
     let mem = out.line ∙ ap (λ q. answered q (over (line_of ax i m) memory) memory) yes in
     let front = ap (take n) mem ∙ take_at (line_of ax i m) (drop (length (line_of ax i m)) memory) n (size ∙ sym cols) in
     record {

@@ -1,13 +1,10 @@
-use Rattle.std.proofs.Common.{◌≡◌, length, Some, sym, ap, ◌∙◌, subst, arith, rules}
+use Rattle.std.proofs.Common.{Some, sym, ap, ◌∙◌, arith}
 use Rattle.std.proofs.lemmas.List.{set-get_or}
 use Rattle.std.proofs.lemmas.Option.{slice_get-get_or}
 use Rattle.uses.specs.Lists.{State}
-use Rattle.uses.proofs.Runs.{Ran, ran_none, ran_more, ran_past}
+use Rattle.uses.proofs.Runs.{ran_more, ran_past}
 use Rattle.uses.proofs.lists.runs.run.Goals as goal
 use Rattle.uses.proofs.lists.runs.run.Goals.{in-Some, in_default}
-
-pub loop-k-init : goal.loop-k-init
-loop-k-init g c = ran_none _ _ _ _ _
 
 pub loop-k-preserved : goal.loop-k-preserved
 loop-k-preserved g c =
@@ -29,10 +26,3 @@ loop-k-preserved g c =
           let p = ran_past (g.B.Board.limits a.b.now) a.lines.now a.calls.now start a.answers.now l.k (g.B.Board.limits l.b) was l.answers w.in_default.ensures.lookup.3 l.invariant in
           record { limits = ap g.B.Board.limits w.b-is ∙ p.limits; state = (λ i. record { matrix = g.B.Board.matrix (w.b-is i); memory = w.memory-is i }) ∙ p.state; said = w.answers-is ∙ set-get_or l.answers l.k _ ∙ p.said }
     ]
-
-pub returns : goal.returns
-returns g c =
-    let l = c.loop-k in
-    let all : l.k ≡ length c.args.answers.now = search rules in
-    let p = subst (Ran (g.B.Board.limits c.args.b.now) (g.B.Board.limits l.b) c.args.lines.now c.args.calls.now (record { matrix = g.B.Board.matrix c.args.b.now; memory = c.args.memory.now }) (record { matrix = g.B.Board.matrix l.b; memory = l.memory }) c.args.answers.now l.answers) all l.invariant in
-    record { answer = p.said; effect = p.state; limits = p.limits }

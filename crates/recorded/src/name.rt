@@ -1,0 +1,95 @@
+// The words of the recorded list that name calls and answers.
+use matrix::axis::Axis;
+use std::str::FromStr;
+
+#[derive(Clone, Copy)]
+pub enum Name {
+    New,
+    Init,
+    FromVec,
+    Insert(Axis),
+    Push(Axis),
+    Remove(Axis),
+    Pop(Axis),
+    Delete(Axis),
+    Flip(Axis),
+    Transpose,
+    RotateLeft,
+    RotateRight,
+    RotateHalf,
+    Put,
+    Get,
+    IsEmpty,
+    Size,
+}
+
+// The word of what the original answered; the cells of a line, a cell or the two sides of a size stand beside it.
+// kept: words alone, and no answers with their values in them, since the numbers of an answer can stand before its word
+#[derive(Clone, Copy)]
+pub enum Said {
+    Done,
+    Panic,
+    Nothing,
+    Absent,
+    True,
+    False,
+    Line,
+    Cell,
+    Size,
+}
+
+// A word that names none.
+#[derive(Clone, Copy)]
+pub struct NoName;
+
+impl FromStr for Name {
+    type Err = NoName;
+
+    fn from_str(word: &str) -> Result<Name, NoName> {
+        match word {
+            "new" => Ok(Name::New),
+            "init" => Ok(Name::Init),
+            "from-vec" => Ok(Name::FromVec),
+            "insert-row" => Ok(Name::Insert(Axis::Row)),
+            "insert-col" => Ok(Name::Insert(Axis::Col)),
+            "push-row" => Ok(Name::Push(Axis::Row)),
+            "push-col" => Ok(Name::Push(Axis::Col)),
+            "remove-row" => Ok(Name::Remove(Axis::Row)),
+            "remove-col" => Ok(Name::Remove(Axis::Col)),
+            "pop-row" => Ok(Name::Pop(Axis::Row)),
+            "pop-col" => Ok(Name::Pop(Axis::Col)),
+            "delete-row" => Ok(Name::Delete(Axis::Row)),
+            "delete-col" => Ok(Name::Delete(Axis::Col)),
+            "flip-rows" => Ok(Name::Flip(Axis::Row)),
+            "flip-cols" => Ok(Name::Flip(Axis::Col)),
+            "transpose" => Ok(Name::Transpose),
+            "rotate-left" => Ok(Name::RotateLeft),
+            "rotate-right" => Ok(Name::RotateRight),
+            "rotate-half" => Ok(Name::RotateHalf),
+            "put" => Ok(Name::Put),
+            "get" => Ok(Name::Get),
+            "is-empty" => Ok(Name::IsEmpty),
+            "size" => Ok(Name::Size),
+            _ => Err(NoName),
+        }
+    }
+}
+
+impl FromStr for Said {
+    type Err = NoName;
+
+    fn from_str(word: &str) -> Result<Said, NoName> {
+        match word {
+            "ok" => Ok(Said::Done),
+            "panic" => Ok(Said::Panic),
+            "none" => Ok(Said::Nothing),
+            "absent" => Ok(Said::Absent),
+            "true" => Ok(Said::True),
+            "false" => Ok(Said::False),
+            "line" => Ok(Said::Line),
+            "cell" => Ok(Said::Cell),
+            "size" => Ok(Said::Size),
+            _ => Err(NoName),
+        }
+    }
+}

@@ -1,0 +1,17 @@
+use Rattle.std.proofs.Common.{rules, IsOk, take_all, ◌∙◌, subst}
+use Rattle.std.proofs.lemmas.List.Elements.{All-more}
+use Rattle.scorer.specs.Plans.{AllAsked}
+use Rattle.scorer.proofs.answers.Played.print.Goals as goal
+
+pub loop-item-preserved : goal.loop-item-preserved
+loop-item-preserved g c clean =
+    let one = c.in_ok-print_item.ensures.outcome clean in
+    let before = c.loop-item.invariant one.0 in
+    (before.0, All-more (λ item. IsOk item.ask) c.deref-item-items.result.now c.loop-item.item-index _ (search rules) before.1 one.1)
+
+pub returns : goal.returns
+returns g c = record {
+  outcome = λ clean.
+      let all = c.loop-item.invariant clean in
+      (all.0, subst AllAsked (take_all c.loop-item.item-index c.deref-item-items.result.now (search rules) ∙ c.deref-item-items.ensures.value) all.1);
+}
