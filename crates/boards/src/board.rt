@@ -26,7 +26,8 @@ pub trait Board {
     fn bounds(&self) -> Limits
         ensures answer { result ≡ limits self.now };
 
-    // kept: a row and a column, and an axis and an index below, as they come from a list; a struct would be made for each call.
+    // kept: a row and a column, and an axis and an index below, since callers have them apart, as variants of a list hold them or as
+    // numbers of their own; a struct would be made of them for this call and taken apart in it.
     fn get(&self, r: usize, c: usize) -> Option<Self::Cell>
         ensures answer { result ≡ (matrix self.now).cell r c };
 

@@ -39,7 +39,7 @@ pub struct Penalty(pub i32);
 
 impl Mark {
     // Yes exactly when both are one mark.
-    // kept: the derived `==` says only that the parts are equal; that both are one value is promised here too.
+    // kept: by its name, as kinds of cell have it; the body is the derived `==`.
     pub fn same(self, other: Mark) -> bool
         ensures only { T result → self ≡ other }
         ensures all { self ≡ other → T result }
@@ -67,7 +67,7 @@ impl Kind for Penalty {
         Penalty(0)
     }
 
-    // kept: a penalty is its one count, and the derived `==` of the two would say no more in fewer words.
+    // kept: by the derived `==`, as at a passage, it would be `self.eq(other)`; the one count on either side is as plain.
     fn same(&self, other: &Penalty) -> bool {
         self.0 == other.0
     }
@@ -81,6 +81,7 @@ impl Kind for u8 {
         0
     }
 
+    // kept: the `==` of bytes, by the name that every kind of cell has it.
     fn same(&self, other: &u8) -> bool {
         *self == *other
     }

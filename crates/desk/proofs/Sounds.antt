@@ -39,7 +39,3 @@ module _ (groups : List (Bor (List Line))) (i : ℕ) where
       let before : Whole xs = h (answered clean).0 in
       let more : lines_of (take (i + 1) groups) ≡ xs ++ ys = ap lines_of (take_more groups i d l) ∙ flat_map-append (λ group. group.now) (take i groups) (get_or groups i d ∷ []) ∙ ap (λ zs. xs ++ zs) (append-nil ys) in
       subst Whole (sym more) (All-append (λ line. IsOk line.call) xs ys before.0 (answered clean).1, begins_append xs ys before.1 (begins clean))
-
-  -- all groups
-  pub whole_all : (lines : List Line) → length groups ≤ i → lines_of groups ≡ lines → Whole (lines_of (take i groups)) → Whole lines
-  whole_all lines l e h = subst Whole (ap lines_of (take_all i groups l) ∙ e) h

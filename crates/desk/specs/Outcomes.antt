@@ -1,6 +1,5 @@
 -- What answers leave of the outcome, which is an error where one was answered.
 use Rattle.std.specs.Prelude.{◌≡◌, List, [], ◌∷◌, Ok, IsOk, All, ⊤}
-use Rattle.matrix.specs.declared.axis.Axis.TheVariants.{Row, Col}
 use Rattle.listing.specs.declared.name.Name.{Name}
 use Rattle.listing.specs.declared.call.Fresh.{Fresh}
 use Rattle.listing.specs.declared.call.Call.{Call}
@@ -30,13 +29,10 @@ abbrev pub called : Call → Name
 called (Call.New fresh) = Name.New
 called (Call.Start cells) = Name.Start
 called (Call.Put r c cell) = Name.Put
-called (Call.Insert Row i cells) = Name.InsertRow
-called (Call.Insert Col i cells) = Name.InsertCol
-called (Call.Remove Row i room) = Name.RemoveRow
-called (Call.Remove Col i room) = Name.RemoveCol
+called (Call.Insert ax i cells) = Name.Insert ax
+called (Call.Remove ax i room) = Name.Remove ax
 called Call.Transpose = Name.Transpose
-called (Call.Flip Row) = Name.FlipRows
-called (Call.Flip Col) = Name.FlipCols
+called (Call.Flip ax) = Name.Flip ax
 called (Call.StepBack room) = Name.StepBack
 called Call.Publish = Name.Publish
 called Call.Reopen = Name.Reopen

@@ -1,10 +1,10 @@
 -- A line taken out, and a line copied.
-use Rattle.std.proofs.Common.{◌≡◌, ℕ, ◌+◌, ◌-◌, ◌*◌, ◌<◌, ◌≤◌, List, ◌++◌, length, take, drop, sym, refl, ap, ◌∙◌, ⊎_elim, mul-le-mul_right, arith}
-use Rattle.std.specs.List.{slice_get}
+use Rattle.std.proofs.Common.{◌≡◌, ℕ, ◌+◌, ◌-◌, ◌*◌, ◌<◌, ◌≤◌, List, ◌++◌, length, take, drop, sym, refl, ap, ◌∙◌, ⊎_elim, mul-le-mul_right, arith, length-drop, length-take-le, get_or-drop, get_or-take}
+use Rattle.std.specs.List.{slice_get, slice_range}
 use Rattle.std.proofs.lemmas.Bool.{cases_lt, cases_eq}
 use Rattle.matrix.specs.Matrix.{skipped, inside, left_across, remove_row, remove_col, row, col, over}
 use Rattle.matrix.specs.Shapes.{rowwise}
-use Rattle.matrix.proofs.Cells.{skipped_below, skipped_above, skipped_within, over_is}
+use Rattle.matrix.proofs.Cells.{nth_same, skipped_below, skipped_above, skipped_within, over_is}
 use Rattle.matrix.proofs.Gather.{Gathered, gathered_all}
 use Rattle.matrix.proofs.Products.{line_more, line_ends, line_narrower}
 use Rattle.matrix.proofs.Whole.{inside_in, rowwise_is, whole_rowwise, whole_remove_row, whole_remove_col, across_stays}
@@ -59,11 +59,19 @@ removed_outer {T} xs ys outer n at ha slid =
         ap (slice_get ys) (omega arith) ∙ slid.moved (r * n + c - at * n) (omega arith) ∙ ap (slice_get xs) (omega arith) ∙ ap (λ j. slice_get xs (j * n + c)) (sym s) ∙ sym (inside_in outer n (skipped at r) c (slice_get xs (skipped at r * n + c)) (omega arith) hc))
         (cases_lt r at)
 
-pub copied_outer : {T : Type 0} (xs mem zs : List T) (outer n at : ℕ) → at < outer → n ≤ length mem → Copied mem zs xs (at * n) 0 n → zs ≡ over (row at (rowwise outer n xs)) mem
-copied_outer xs mem zs outer n at ha hm p =
-    over_is n (λ c. inside outer n at c (slice_get xs (at * n + c))) mem zs hm p.len
-    (λ k h. ap (slice_get zs) (omega arith) ∙ p.moved k h ∙ sym (inside_in outer n at k (slice_get xs (at * n + k)) ha h))
-    (λ k h. p.above k (omega arith))
+-- n cells from `from` on, copied to the memory's first cells
+pub copied_outer : {T : Type 0} (xs mem zs : List T) (outer n at : ℕ) → at < outer → outer * n ≤ length xs → n ≤ length mem
+    → (let part = slice_range xs (at * n) (at * n + n) in Copied mem zs part 0 0 (length part)) → zs ≡ over (row at (rowwise outer n xs)) mem
+copied_outer xs mem zs outer n at ha hx hm p =
+    let from = at * n in
+    let part = slice_range xs from (from + n) in
+    let end = line_ends at outer n ha in
+    let size : length part ≡ n = length-take-le (from + n - from) (drop from xs) (omega (arith, length-drop from xs)) ∙ (let z : from + n - from ≡ n = omega arith in z) in
+    let there : (k : ℕ) → k < n → slice_get part k ≡ slice_get xs (from + k) = λ k h.
+    nth_same part xs k (from + k) (omega (arith, size)) (omega arith) (λ d. get_or-take (from + n - from) (drop from xs) k d (omega arith) ∙ get_or-drop from xs k d) in
+    over_is n (λ c. inside outer n at c (slice_get xs (from + c))) mem zs hm p.len
+    (λ k h. let same : k ≡ 0 + k = omega arith in ap (slice_get zs) same ∙ p.moved k (omega (arith, size)) ∙ ap (slice_get part) (sym same) ∙ there k h ∙ sym (inside_in outer n at k (slice_get xs (from + k)) ha h))
+    (λ k h. p.above k (omega (arith, size)))
 
 -- the cells at one place of each of `outer` lines of n cells
 pub gathered_inner : {T : Type 0} (xs mem line : List T) (outer n at : ℕ) → at < n → outer ≤ length mem → Gathered xs (take outer mem) line (λ k. k * n + at) outer → line ++ drop outer mem ≡ over (col at (rowwise outer n xs)) mem

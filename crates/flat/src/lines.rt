@@ -41,7 +41,7 @@ pub(crate) fn insert_line<T: Copy>(s: &mut [T], shape: Shape, i: usize, line: &[
         Order::RowMajor => {
             let from = i * cols;
             slide(s, from, from + cols, rows * cols - from);
-            copy(s, from, line, 0, cols);
+            copy(s, from, line);
         }
         Order::ColumnMajor => {
             // kept: by `line.iter().enumerate().rev()` the loop's invariant is on the items still to come, and no longer names the
@@ -71,8 +71,9 @@ pub(crate) fn copy_line<T: Copy>(s: &[T], shape: Shape, i: usize, memory: &mut [
     // kept: a row is one run of cells, or a cell of each column: one loop over both would take the run cell by cell, 1.3 times
     // slower at 16 × 16
     match shape.order {
-        Order::RowMajor => copy(memory, 0, s, i * cols, cols),
+        Order::RowMajor => copy(memory, 0, &s[i * cols..i * cols + cols]),
         Order::ColumnMajor => {
+            // kept: a place in `s` beside it: after a `zip` with `iter_mut` a proof knows nothing of what was written
             for (c, x) in memory[..cols].iter_mut().enumerate() {
                 *x = s[c * rows + i];
             }

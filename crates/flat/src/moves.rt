@@ -12,13 +12,12 @@ pub(crate) fn slide<T: Copy>(s: &mut [T], from: usize, to: usize, n: usize)
     s.copy_within(from..from + n, to);
 }
 
-// Copies n cells of src into s.
-pub(crate) fn copy<T: Copy>(s: &mut [T], to: usize, src: &[T], from: usize, n: usize)
-    requires from { from + n ≤ length src.now }
-    requires to { to + n ≤ length s.old }
-    ensures effect { Copied s.old s.new src.now from to n }
+// Copies the cells of src into s.
+pub(crate) fn copy<T: Copy>(s: &mut [T], to: usize, src: &[T])
+    requires room { to + length src.now ≤ length s.old }
+    ensures effect { Copied s.old s.new src.now 0 to (length src.now) }
 {
-    s[to..to + n].copy_from_slice(&src[from..from + n]);
+    s[to..to + src.len()].copy_from_slice(src);
 }
 
 // Writes x into the first n cells.

@@ -11,7 +11,8 @@ pub mod turns;
 // one whose memory has fewer. Flat cells beyond R × C are free.
 #[derive(Drop)]
 pub struct Grid<'a, T> {
-    // kept: memory is lent and never grows, so a slice and no Vec.
+    // kept: memory is lent and never grows, so a slice and no Vec. That it is long enough is no invariant, since the calls below
+    // take any slice and any shape, and each checks what it goes by.
     cells: &'a mut [T],
     shape: Shape,
 }

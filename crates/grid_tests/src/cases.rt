@@ -5,36 +5,37 @@ use grid::grid::Grid;
 use grid::grid::making::from_vec_check;
 use matrix::shape::Order;
 
-// A in row-major order.
-fn a(memory: &mut [u8]) -> Grid<'_, u8> {
-    lay(memory, &[1, 2, 3, 4, 5, 6], 3, Order::RowMajor)
-}
-
-// A in column-major order.
-fn a_by_columns(memory: &mut [u8]) -> Grid<'_, u8> {
-    lay(memory, &[1, 4, 2, 5, 3, 6], 3, Order::ColumnMajor)
+// A in that order.
+fn a(memory: &mut [u8], order: Order) -> Grid<'_, u8> {
+    let flat = match order {
+        Order::RowMajor => [1, 2, 3, 4, 5, 6],
+        Order::ColumnMajor => [1, 4, 2, 5, 3, 6],
+    };
+    lay(memory, &flat, 3, order)
 }
 
 // A row inserted at 1, in both orders.
 #[test]
 fn row_inserted(rt: HostRuntime) {
-    let mut memory = [0u8; 16];
-    let mut g = a(&mut memory);
-    assert_eq!(rt; g.insert_row(1, &[7, 8, 9]), Ok(()));
-    assert_eq!(rt; g.size(), (3, 3));
-    ended(&rt, g, &[1, 2, 3, 7, 8, 9, 4, 5, 6]);
-    let mut memory = [0u8; 16];
-    let mut g = a_by_columns(&mut memory);
-    assert_eq!(rt; g.insert_row(1, &[7, 8, 9]), Ok(()));
-    shows(&rt, &g, 3, &[1, 2, 3, 7, 8, 9, 4, 5, 6]);
-    ended(&rt, g, &[1, 7, 4, 2, 8, 5, 3, 9, 6]);
+    let flat = [
+        (Order::RowMajor, [1, 2, 3, 7, 8, 9, 4, 5, 6]),
+        (Order::ColumnMajor, [1, 7, 4, 2, 8, 5, 3, 9, 6]),
+    ];
+    for (order, flat) in flat {
+        let mut memory = [0u8; 16];
+        let mut g = a(&mut memory, order);
+        assert_eq!(rt; g.insert_row(1, &[7, 8, 9]), Ok(()));
+        assert_eq!(rt; g.size(), (3, 3));
+        shows(&rt, &g, 3, &[1, 2, 3, 7, 8, 9, 4, 5, 6]);
+        ended(&rt, g, &flat);
+    }
 }
 
 #[test]
 fn row_removed(rt: HostRuntime) {
     let mut memory = [0u8; 16];
     let mut line = [0u8; 3];
-    let mut g = a_by_columns(&mut memory);
+    let mut g = a(&mut memory, Order::ColumnMajor);
     took(&rt, g.remove_row(0, &mut line), &line, &[1, 2, 3]);
     assert_eq!(rt; g.size(), (1, 3));
     ended(&rt, g, &[4, 5, 6]);
@@ -43,7 +44,7 @@ fn row_removed(rt: HostRuntime) {
 #[test]
 fn turned(rt: HostRuntime) {
     let mut memory = [0u8; 16];
-    let mut g = a(&mut memory);
+    let mut g = a(&mut memory, Order::RowMajor);
     g.rotate_right();
     assert_eq!(rt; g.size(), (3, 2));
     assert_eq!(rt; g.order(), Order::ColumnMajor);
@@ -54,7 +55,7 @@ fn turned(rt: HostRuntime) {
 #[test]
 fn places(rt: HostRuntime) {
     let mut memory = [0u8; 16];
-    let mut g = a(&mut memory);
+    let mut g = a(&mut memory, Order::RowMajor);
     assert_eq!(rt; g.insert_row(3, &[7, 8, 9]), Err(Refusal::Place));
     assert_eq!(rt; g.insert_row(3, &[7, 8]), Err(Refusal::Length));
     assert_eq!(rt; g.insert_row(0, &[]), Err(Refusal::Empty));
@@ -79,7 +80,7 @@ fn making(rt: HostRuntime) {
 fn limits(rt: HostRuntime) {
     let mut memory = [0u8; 8];
     let mut line = [0u8; 3];
-    let mut g = a(&mut memory);
+    let mut g = a(&mut memory, Order::RowMajor);
     assert_eq!(rt; g.push_row(&[7, 8, 9]), Err(Refusal::Full));
     took(&rt, g.remove_row(1, &mut line), &line, &[4, 5, 6]);
     assert_eq!(rt; g.push_row(&[7, 8, 9]), Ok(()));

@@ -5,7 +5,8 @@ pub mod calls;
 // stands for none.
 #[derive(Drop)]
 pub struct StackKeep<'a, T> {
-    // kept: no heap, so a stack is lent memory and how much of it is used
+    // kept: no heap, so a stack is lent memory and how much of it is used; a count above M stands for none, so that no invariant
+    // beside a lent slice is needed
     cells: &'a mut [T],
     used: usize,
 }

@@ -1,2 +1,1 @@
-mod Misspelt
 mod Calls

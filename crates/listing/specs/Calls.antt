@@ -1,8 +1,6 @@
 -- What the words of a line say.
 use Rattle.std.specs.Prelude.{◌≡◌, ℕ, List, [], ◌∷◌, Some, None, Ok, Err, codes, Option, Result, map, zero, suc}
-use Rattle.matrix.specs.declared.axis.Axis.TheVariants.{Row, Col}
-use Rattle.matrix.specs.declared.shape.Order.{Order}
-use Rattle.matrix.specs.declared.shape.Order.TheVariants.{RowMajor, ColumnMajor}
+use Rattle.matrix.specs.Orders.{order_word}
 use Rattle.listing.specs.declared.name.Name.{Name}
 use Rattle.listing.specs.declared.call.SheetKind.{SheetKind}
 use Rattle.listing.specs.declared.call.SheetKind.TheVariants.{Passages, Penalties}
@@ -28,10 +26,6 @@ kind_word Penalties = codes "penalties"
 abbrev pub KindNamed : List ℕ → Result SheetKind NoKind → Type 0
 KindNamed w (Ok kind) = w ≡ kind_word kind
 KindNamed w (Err e) = (kind : SheetKind) → w ≡ kind_word kind → ⊥
-
-abbrev pub order_word : Order → List ℕ
-order_word RowMajor = codes "row-major"
-order_word ColumnMajor = codes "column-major"
 
 -- a ground, and the words after it
 abbrev pub SaysGround : List (List ℕ) → Ground × List (List ℕ) → Type 0
@@ -87,13 +81,10 @@ abbrev pub SaysCall : Name → List (List ℕ) → Call → Type 0
 SaysCall Name.New ws x = (f : Fresh) × (x ≡ Call.New f) × SaysSheet ws f
 SaysCall Name.Start ws x = (cells : Bor (List (Bor (List ℕ)))) × (x ≡ Call.Start cells) × (ws ≡ texts cells.now)
 SaysCall Name.Put ws x = (p : ℕ × ℕ × Bor (List ℕ)) × (x ≡ Call.Put p.0 p.1 p.2) × SaysPut ws p
-SaysCall Name.InsertRow ws x = (p : ℕ × Bor (List (Bor (List ℕ)))) × (x ≡ Call.Insert Row p.0 p.1) × SaysInsertion ws p
-SaysCall Name.InsertCol ws x = (p : ℕ × Bor (List (Bor (List ℕ)))) × (x ≡ Call.Insert Col p.0 p.1) × SaysInsertion ws p
-SaysCall Name.RemoveRow ws x = (i : ℕ) × (room : ℕ) × (x ≡ Call.Remove Row i room) × SaysRemoval ws (i, room)
-SaysCall Name.RemoveCol ws x = (i : ℕ) × (room : ℕ) × (x ≡ Call.Remove Col i room) × SaysRemoval ws (i, room)
+SaysCall (Name.Insert ax) ws x = (p : ℕ × Bor (List (Bor (List ℕ)))) × (x ≡ Call.Insert ax p.0 p.1) × SaysInsertion ws p
+SaysCall (Name.Remove ax) ws x = (i : ℕ) × (room : ℕ) × (x ≡ Call.Remove ax i room) × SaysRemoval ws (i, room)
 SaysCall Name.Transpose ws x = SaysAlone Call.Transpose ws x
-SaysCall Name.FlipRows ws x = SaysAlone (Call.Flip Row) ws x
-SaysCall Name.FlipCols ws x = SaysAlone (Call.Flip Col) ws x
+SaysCall (Name.Flip ax) ws x = SaysAlone (Call.Flip ax) ws x
 SaysCall Name.StepBack ws x = (room : ℕ) × (x ≡ Call.StepBack room) × SaysRoom ws room
 SaysCall Name.Publish ws x = SaysAlone Call.Publish ws x
 SaysCall Name.Reopen ws x = SaysAlone Call.Reopen ws x

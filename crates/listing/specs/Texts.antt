@@ -1,7 +1,8 @@
 -- What a person is told of a line that is answered by an error.
 use Rattle.std.specs.Prelude.{ℕ, List, ◌++◌, codes, decimal, ⊤}
+use Rattle.matrix.specs.declared.axis.Axis.TheVariants.{Row, Col}
 use Rattle.listing.specs.declared.name.Name.{Name}
-use Rattle.listing.specs.declared.name.Name.TheVariants.{New, Start, Put, InsertRow, InsertCol, RemoveRow, RemoveCol, Transpose, FlipRows, FlipCols, StepBack, Publish, Reopen, Size, Get, Owed, Kept, Settled, Show, Tally}
+use Rattle.listing.specs.declared.name.Name.TheVariants.{New, Start, Put, Insert, Remove, Transpose, Flip, StepBack, Publish, Reopen, Size, Get, Owed, Kept, Settled, Show, Tally}
 use Rattle.listing.specs.declared.call.SheetKind.TheVariants.{Passages, Penalties}
 use Rattle.listing.specs.declared.wrong.Wrong.{Wrong}
 use Rattle.listing.specs.declared.wrong.Failure.{Failure}
@@ -12,15 +13,14 @@ abbrev pub usage : Name → List ℕ
 usage New = codes "new passages|penalties BOARD KEEP"
 usage Start = codes "start CELL .."
 usage Put = codes "put R C CELL"
-usage InsertRow = codes "insert-row I CELL .."
-usage InsertCol = codes "insert-col I CELL .."
-usage RemoveRow = codes "remove-row I [ROOM]"
-usage RemoveCol = codes "remove-col I [ROOM]"
+usage (Insert Row) = codes "insert-row I CELL .."
+usage (Insert Col) = codes "insert-col I CELL .."
+usage (Remove Row) = codes "remove-row I [ROOM]"
+usage (Remove Col) = codes "remove-col I [ROOM]"
 usage StepBack = codes "step-back [ROOM]"
 usage Get = codes "get R C"
 usage Transpose = codes "nothing after this call's name"
-usage FlipRows = codes "nothing after this call's name"
-usage FlipCols = codes "nothing after this call's name"
+usage (Flip ax) = codes "nothing after this call's name"
 usage Publish = codes "nothing after this call's name"
 usage Reopen = codes "nothing after this call's name"
 usage Size = codes "nothing after this call's name"

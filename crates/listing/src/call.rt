@@ -100,13 +100,9 @@ impl<'a> Call<'a> {
         let [word, rest @ ..] = words else {
             return Ok(None);
         };
-        let Ok(name) = word.parse::<Name>() else {
-            return Err(Wrong::NoName);
-        };
-        match named(name, rest) {
-            Some(call) => Ok(Some(call)),
-            None => Err(Wrong::Usage(name)),
-        }
+        let name: Name = word.parse().map_err(|_| Wrong::NoName)?;
+        let call = named(name, rest).ok_or(Wrong::Usage(name))?;
+        Ok(Some(call))
     }
 }
 
@@ -121,25 +117,16 @@ fn named<'a>(name: Name, words: &'a [&'a str]) -> Option<Call<'a>>
             let (r, c, cell) = put(words)?;
             Some(Call::Put(r, c, cell))
         }
-        Name::InsertRow => {
+        Name::Insert(axis) => {
             let (i, cells) = insertion(words)?;
-            Some(Call::Insert(Axis::Row, i, cells))
+            Some(Call::Insert(axis, i, cells))
         }
-        Name::InsertCol => {
-            let (i, cells) = insertion(words)?;
-            Some(Call::Insert(Axis::Col, i, cells))
-        }
-        Name::RemoveRow => {
+        Name::Remove(axis) => {
             let (i, room) = removal(words)?;
-            Some(Call::Remove(Axis::Row, i, room))
-        }
-        Name::RemoveCol => {
-            let (i, room) = removal(words)?;
-            Some(Call::Remove(Axis::Col, i, room))
+            Some(Call::Remove(axis, i, room))
         }
         Name::Transpose => alone(Call::Transpose, words),
-        Name::FlipRows => alone(Call::Flip(Axis::Row), words),
-        Name::FlipCols => alone(Call::Flip(Axis::Col), words),
+        Name::Flip(axis) => alone(Call::Flip(axis), words),
         Name::StepBack => Some(Call::StepBack(room_of(words)?)),
         Name::Publish => alone(Call::Publish, words),
         Name::Reopen => alone(Call::Reopen, words),
@@ -219,9 +206,7 @@ fn sheet(words: &[&str]) -> Option<Fresh>
     let [kind, words @ ..] = words else {
         return None;
     };
-    let Ok(kind) = kind.parse::<SheetKind>() else {
-        return None;
-    };
+    let kind: SheetKind = kind.parse().ok()?;
     let (turns, words) = read_turns(words);
     let (ground, words) = read_ground(words)?;
     let keeping = read_keep(words)?;
@@ -252,11 +237,9 @@ fn read_ground<'a>(words: &'a [&'a str]) -> Option<(Ground, &'a [&'a str])>
     ensures ground { Read SaysGround (texts words.now) (option_map (λ p. (p.0, texts p.1.now)) result) }
 {
     match words {
-        ["grid", "row-major", cells, rest @ ..] => {
-            Some((Ground::Grid(Order::RowMajor, number(cells)?), rest))
-        }
-        ["grid", "column-major", cells, rest @ ..] => {
-            Some((Ground::Grid(Order::ColumnMajor, number(cells)?), rest))
+        ["grid", order, cells, rest @ ..] => {
+            let order: Order = order.parse().ok()?;
+            Some((Ground::Grid(order, number(cells)?), rest))
         }
         ["seats", side, rest @ ..] => Some((Ground::Seats(number(side)?), rest)),
         _ => None,

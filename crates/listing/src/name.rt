@@ -2,23 +2,20 @@
 ghost use Rattle.std.specs.Prelude.{Some};
 ghost use Rattle.listing.specs.Names.{name_word, Named};
 
+use matrix::axis::Axis;
 use std::fmt;
 use std::fmt::Display;
 use std::str::FromStr;
 
-// kept: rows and columns apart, since each is a word of its own in a list
 #[derive(Clone, Copy, PartialEq, Eq)]
 pub enum Name {
     New,
     Start,
     Put,
-    InsertRow,
-    InsertCol,
-    RemoveRow,
-    RemoveCol,
+    Insert(Axis),
+    Remove(Axis),
     Transpose,
-    FlipRows,
-    FlipCols,
+    Flip(Axis),
     StepBack,
     Publish,
     Reopen,
@@ -45,13 +42,13 @@ impl FromStr for Name {
             "new" => Ok(Name::New),
             "start" => Ok(Name::Start),
             "put" => Ok(Name::Put),
-            "insert-row" => Ok(Name::InsertRow),
-            "insert-col" => Ok(Name::InsertCol),
-            "remove-row" => Ok(Name::RemoveRow),
-            "remove-col" => Ok(Name::RemoveCol),
+            "insert-row" => Ok(Name::Insert(Axis::Row)),
+            "insert-col" => Ok(Name::Insert(Axis::Col)),
+            "remove-row" => Ok(Name::Remove(Axis::Row)),
+            "remove-col" => Ok(Name::Remove(Axis::Col)),
             "transpose" => Ok(Name::Transpose),
-            "flip-rows" => Ok(Name::FlipRows),
-            "flip-cols" => Ok(Name::FlipCols),
+            "flip-rows" => Ok(Name::Flip(Axis::Row)),
+            "flip-cols" => Ok(Name::Flip(Axis::Col)),
             "step-back" => Ok(Name::StepBack),
             "publish" => Ok(Name::Publish),
             "reopen" => Ok(Name::Reopen),
@@ -75,13 +72,13 @@ impl Display for Name {
             Name::New => "new",
             Name::Start => "start",
             Name::Put => "put",
-            Name::InsertRow => "insert-row",
-            Name::InsertCol => "insert-col",
-            Name::RemoveRow => "remove-row",
-            Name::RemoveCol => "remove-col",
+            Name::Insert(Axis::Row) => "insert-row",
+            Name::Insert(Axis::Col) => "insert-col",
+            Name::Remove(Axis::Row) => "remove-row",
+            Name::Remove(Axis::Col) => "remove-col",
             Name::Transpose => "transpose",
-            Name::FlipRows => "flip-rows",
-            Name::FlipCols => "flip-cols",
+            Name::Flip(Axis::Row) => "flip-rows",
+            Name::Flip(Axis::Col) => "flip-cols",
             Name::StepBack => "step-back",
             Name::Publish => "publish",
             Name::Reopen => "reopen",

@@ -5,6 +5,7 @@ ghost use Rattle.listing.specs.Texts.{wrong_text, IsNoMemory};
 
 use crate::call::SheetKind;
 use crate::name::Name;
+use matrix::axis::Axis;
 use std::alloc::{AllocError, AllocFailed};
 use std::fmt;
 use std::fmt::Display;
@@ -40,10 +41,10 @@ impl Display for Wrong {
                 Name::New => "expected new passages|penalties BOARD KEEP",
                 Name::Start => "expected start CELL ..",
                 Name::Put => "expected put R C CELL",
-                Name::InsertRow => "expected insert-row I CELL ..",
-                Name::InsertCol => "expected insert-col I CELL ..",
-                Name::RemoveRow => "expected remove-row I [ROOM]",
-                Name::RemoveCol => "expected remove-col I [ROOM]",
+                Name::Insert(Axis::Row) => "expected insert-row I CELL ..",
+                Name::Insert(Axis::Col) => "expected insert-col I CELL ..",
+                Name::Remove(Axis::Row) => "expected remove-row I [ROOM]",
+                Name::Remove(Axis::Col) => "expected remove-col I [ROOM]",
                 Name::StepBack => "expected step-back [ROOM]",
                 Name::Get => "expected get R C",
                 _ => "expected nothing after this call's name",

@@ -1,5 +1,6 @@
 pub mod Matrix
 pub mod Shapes
+pub mod Orders
 pub mod Rules
 pub mod Axes
 pub mod Runs

@@ -10,7 +10,7 @@ pub enum Axis {
 }
 
 impl Axis {
-    // kept: a name that says what is exchanged, which `!axis` would not.
+    // kept: no derive gives the other of two variants; an `impl` of `Not` would have this body under `!axis`, and name nothing.
     pub fn other(self) -> Axis
         ensures answer { result ≡ other self }
     {

@@ -2,6 +2,7 @@
 ghost use Rattle.std.specs.Prelude.{◌≡◌, ℕ, ◌≤◌};
 
 pub mod calls;
+pub mod words;
 
 // Whether the cells lie row by row or column by column.
 #[derive(Clone, Copy, Debug, PartialEq, Eq)]

@@ -24,7 +24,7 @@ pub enum Name {
 }
 
 // The word of what the original answered; the cells of a line, a cell or the two sides of a size stand beside it.
-// kept: words alone, and no answers with their values in them, since the numbers of an answer can stand before its word
+// They are words alone, and no answers with their values in them, since the numbers of an answer can stand before its word.
 #[derive(Clone, Copy)]
 pub enum Said {
     Done,

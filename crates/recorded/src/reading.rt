@@ -77,19 +77,19 @@ impl Reader {
     // One word more. Of names and of orders the last counts.
     fn take(&mut self, part: Part, word: &str) -> anyhow::Result<()> {
         match part {
-            Part::Head => match (word.parse::<Name>(), order(word)) {
+            Part::Head => match (word.parse::<Name>(), word.parse::<Order>()) {
                 (Ok(name), _) => self.name = name,
-                (Err(_), Some(order)) => self.order = order,
-                (Err(_), None) => self.numbers.push(word.parse::<usize>()?)?,
+                (Err(_), Ok(order)) => self.order = order,
+                (Err(_), Err(_)) => self.numbers.push(word.parse::<usize>()?)?,
             },
             Part::Line => self.line.push(word.parse::<u32>()?)?,
             Part::Answer => match word.parse::<Said>() {
                 Ok(said) => self.said = said,
                 Err(_) => self.told.push(word.parse::<u32>()?)?,
             },
-            Part::After => match order(word) {
-                Some(order) => self.after = order,
-                None => self.sides.push(word.parse::<usize>()?)?,
+            Part::After => match word.parse::<Order>() {
+                Ok(order) => self.after = order,
+                Err(_) => self.sides.push(word.parse::<usize>()?)?,
             },
             Part::Flat => self.flat.push(word.parse::<u32>()?)?,
         }
@@ -145,15 +145,6 @@ fn step(name: Name, order: Order, numbers: &[usize], line: Vec<u32>) -> Step {
         Name::Get => Step::Call(Call::Get(i, j)),
         Name::IsEmpty => Step::Call(Call::IsEmpty),
         Name::Size => Step::Call(Call::Size),
-    }
-}
-
-// kept: a FromStr of Order would stand in matrix, and these are the list's words; it is no plainer there.
-fn order(word: &str) -> Option<Order> {
-    match word {
-        "row-major" => Some(Order::RowMajor),
-        "column-major" => Some(Order::ColumnMajor),
-        _ => None,
     }
 }
 

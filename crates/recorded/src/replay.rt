@@ -142,6 +142,7 @@ fn may_make(memory: usize, making: &Making) -> Result<(), Refusal> {
 }
 
 // The grid of the call.
+// kept: cells are laid as in tests of grids, which lay bytes: a function of both would stand in `grid`, which lays no cells itself
 fn make<'a>(memory: &'a mut [u32], order: Order, making: &Making) -> Grid<'a, u32> {
     match making {
         Making::Init(rows, cols, x) => Grid::init_with_order(memory, *rows, *cols, order, *x),

@@ -23,7 +23,9 @@ pub enum Call<T> {
     Settled,
 }
 
-// `Lacking` is said where the sheet's state does not have the call.
+// `Lacking` is said where the sheet's state does not have the call, and `Moved` by a sheet that goes on open.
+// kept: `Lacking` among the answers, since each call has one answer of them, and an `Option` round it would be a second layer in
+// every list of answers; `Moved` apart, since `Said(Ok(()))` would say of a call that it can be refused
 #[derive(Clone, Copy, Debug, PartialEq, Eq)]
 pub enum Answer<T> {
     Said(Result<(), Refusal>),

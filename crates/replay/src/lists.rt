@@ -19,6 +19,7 @@ pub struct Left<B, K> {
 }
 
 // The calls in order, as many as there is room for answers.
+// kept: lines and memory come as `replay` is handed them, each a slice of its caller's
 fn run<B: Board, K: Keep<Cell = B::Cell>>(
     mut state: State<B, K>,
     calls: &[Call<B::Cell>],
@@ -28,7 +29,8 @@ fn run<B: Board, K: Keep<Cell = B::Cell>>(
 ) -> State<B, K>
     ensures ran { (w : World B.Cell) → Holds B.Board K.Keep state w → w.memory ≡ memory.old → Ran B.Board K.Keep result memory.new answers.old answers.new lines.now (take (length answers.old) calls.now) w }
 {
-    // kept: an index beside the answers: tried by `zip` with `iter_mut`, after which a proof knows nothing of what was written.
+    // kept: an index beside the answers: tried by `zip` with `iter_mut`, after which a proof knows nothing of what was written. A
+    // loop of its own beside those of the exchange and of lists of board calls: each call moves the state, which no closure holds.
     for (k, answer) in answers.iter_mut().enumerate() {
         if let Some(call) = calls.get(k) {
             (state, *answer) = step(state, *call, lines, memory);

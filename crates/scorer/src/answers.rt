@@ -68,34 +68,28 @@ impl<T: Written> Played<T> {
 
     // The answer of the row of that number under the sheet.
     fn under(&self, number: usize) -> Result<Answer<'_, T>, Wrong> {
-        match self.starts.get(number) {
-            Some(said) => Ok(Answer::Done(*said)),
-            None => Err(Wrong::Late),
-        }
+        let said = self.starts.get(number).ok_or(Wrong::Late)?;
+        Ok(Answer::Done(*said))
     }
 
     // The answer of a removal or a step back, between two sizes.
     fn removed(&self, calls: &[Call<T>], said: &[Said<T>]) -> Result<Answer<'_, T>, Wrong> {
-        let length = line_length(said);
         let [_, call, _] = calls else {
             return Err(Wrong::Published);
         };
-        if length == 0 {
-            return match said {
-                [_, one, _] => spoken(*call, *one),
-                _ => Err(Wrong::Published),
-            };
-        }
-        Ok(Answer::Line(Cells(self.line(*call, length))))
-    }
-
-    // The line of that length that the call has left in the memory.
-    fn line(&self, call: Call<T>, length: usize) -> &[T] {
-        let start = match call {
-            Call::Remove(_, _, segment) | Call::StepBack(segment) => segment.start,
-            _ => 0,
+        let [_, one, _] = said else {
+            return Err(Wrong::Published);
         };
-        Segment { start, len: length }.of(self.memory.as_slice())
+        let Some(len) = line_length(said) else {
+            return spoken(*call, *one);
+        };
+        let (Call::Remove(_, _, Segment { start, .. }) | Call::StepBack(Segment { start, .. })) =
+            *call
+        else {
+            return Err(Wrong::Published);
+        };
+        let line = Segment { start, len }.of(self.memory.as_slice());
+        Ok(Answer::Line(Cells(line)))
     }
 }
 
@@ -157,12 +151,13 @@ fn rows<T: Written>(out: &mut Output<'_>, said: &[Said<T>]) -> anyhow::Result<()
         return Ok(());
     }
     for row in cells.chunks(*cols) {
-        let mut line = Vec::new(out.heap);
-        for said in row {
-            if let Said::Cell(Some(cell)) = said {
-                line.push(*cell)?;
-            }
-        }
+        let line: Vec<T> = row
+            .iter()
+            .filter_map(|said| match said {
+                Said::Cell(cell) => *cell,
+                _ => None,
+            })
+            .collect(out.heap)?;
         out.answer(Answer::Row(Cells(line.as_slice())))?;
     }
     Ok(())

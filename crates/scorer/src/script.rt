@@ -233,7 +233,7 @@ impl<T: Written> Plan<T> {
         match (ask, said) {
             (Ok(Ask::Show), [Said::Sized(rows, cols)]) => self.ask_cells(*rows, *cols),
             (Ok(Ask::Line), said) => {
-                self.pool = self.pool.saturating_add(line_length(said));
+                self.pool = self.pool.saturating_add(line_length(said).unwrap_or(0));
                 Ok(())
             }
             _ => Ok(()),
@@ -271,16 +271,18 @@ fn moved<T: Written>(call: Call<T>, start: usize) -> Call<T> {
     }
 }
 
-// How long the line is that came or went by the call between two sizes.
-pub fn line_length<T: Written>(said: &[Said<T>]) -> usize {
+// How long the line is that came or went by the call between two sizes, if one did.
+pub fn line_length<T: Written>(said: &[Said<T>]) -> Option<usize> {
     match said {
         [
             Said::Sized(rows, cols),
             _,
             Said::Sized(rows_after, cols_after),
-        ] => rows
-            .saturating_mul(*cols)
-            .abs_diff(rows_after.saturating_mul(*cols_after)),
-        _ => 0,
+        ] => {
+            let before = rows.saturating_mul(*cols);
+            let after = rows_after.saturating_mul(*cols_after);
+            (before != after).then_some(before.abs_diff(after))
+        }
+        _ => None,
     }
 }

@@ -1,4 +1,5 @@
 // What `--help` prints.
+// kept: whole, as it is printed; what it shares with the help of `scorer` comes in six parts, between which stand lines of its own.
 
 pub const LINES: [&str; 29] = [
     "Usage: scoresheet [FILE]",

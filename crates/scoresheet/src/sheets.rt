@@ -57,7 +57,7 @@ impl Sheets for Plain {
 struct Sheet<'a> {
     out: Output<'a>,
     kind: SheetKind,
-    // kept: a plain yes or no, with no value that goes with it
+    // Whether a call of the sheet was answered, so that rows under it come too late.
     has_begun: bool,
     lines: &'a [Line<'a>],
 }

@@ -9,7 +9,8 @@ use Rattle.matrix.specs.Matrix.{Matrix, put_cell, over}
 use Rattle.keeps.specs.Kept.{Store, holding, newest, older, taken}
 use Rattle.keeps.proofs.Newest.{newest_last, older_last}
 use Rattle.std.proofs.lemmas.Option.{none-some, same_Some}
-use Rattle.matrix.specs.Rules.{put_answer, remove_answer}
+use Rattle.matrix.specs.Rules.{put_answer}
+use Rattle.matrix.proofs.Goes.{goes_out}
 use Rattle.std.proofs.lemmas.Bool.Decides.{nat_tests}
 use Rattle.matrix.specs.declared.axis.Axis.{Axis}
 use Rattle.sheet.specs.declared.edit.Edit.{Edit}
@@ -104,13 +105,6 @@ module _ {T : Type 0} {ko : Type 0} {m : Matrix T} {l : Limits} {k : Store T} {j
   pub same_keep : x.taken ≡ [] → k ≡ holding (kept xs) k
   same_keep z = λ i. record { cells = (keep_ends ∙ ap (λ ys. kept xs ++ ys) z ∙ append-nil (kept xs)) i; most = k.most }
 
--- a line that is there goes out into memory that is long enough
-pub goes_out : {T : Type 0} (ax : Axis) (i : ℕ) (memory : List T) (m : Matrix T) → i < (along ax m).rows → (along ax m).cols ≤ length memory → remove_along ax i memory m ≡ Ok tt
-goes_out ax i memory m h p = out i (length memory) (along ax m).rows (along ax m).cols h p
-  where
-    out : (i n count across : ℕ) → i < count → across ≤ n → remove_answer i n count across ≡ Ok tt
-    out i n count across h p = grind (arith, nat_tests)
-
 -- one cell
 pub one_cell : {X : Type 0} (xs : List X) → length xs ≡ 1 → (x : X) × (xs ≡ x ∷ [])
 one_cell [] e = absurd (omega arith)
@@ -122,7 +116,7 @@ module _ {T : Type 0} {ko : Type 0} {m : Matrix T} {l : Limits} {k : Store T} {j
   pub undo_insert : {m' : Matrix T} {l' : Limits} {js' : List Edit} {memory' : List T} (ax : Axis) (i n : ℕ) (nw : Newest b (Insert ax i n)) (r : Result Unit Refusal) → n ≤ length memory → r ≡ remove_along ax i memory m → m' ≡ answered r (removed ax i m) m → memory' ≡ answered r (over (line_of ax i m) memory) memory → l' ≡ l → js' ≡ older js → ((Ok tt ≡ back_said memory b) × Agrees ko m' l' k js' (back_book memory b)) × (memory' ≡ back_memory memory b)
   undo_insert ax i n nw r p ra re rl el ej =
       let can = can_undo h (Insert ax i n) nw memory in
-      let yes : r ≡ Ok tt = ra ∙ ap (remove_along ax i memory) h.matrix ∙ goes_out ax i memory b.matrix can.0 (omega (arith, can.1)) in
+      let yes : r ≡ Ok tt = ra ∙ ap (remove_along ax i memory) h.matrix ∙ sym (goes_out i (length memory) (along ax b.matrix).rows (along ax b.matrix).cols can.0 (omega (arith, can.1))) in
       back_done h (Insert ax i n) nw memory p h.ordered
       (re ∙ ap (λ q. answered q (removed ax i m) m) yes ∙ ap (removed ax i) h.matrix) el (same_keep h (Insert ax i n) nw memory can.3) ej
       (rl ∙ ap (λ q. answered q (over (line_of ax i m) memory) memory) yes ∙ ap (λ z. over (line_of ax i z) memory) h.matrix)

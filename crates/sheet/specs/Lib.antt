@@ -1,4 +1,3 @@
-pub mod Noted
 pub mod Book
 pub mod Stands
 pub mod Sheets

@@ -1,5 +1,6 @@
 // The journal of a sheet: which edits are owed a step back.
 use crate::edit::Edit;
+use arrayvec::ArrayVec;
 use std::marker::Model;
 
 pub mod calls;
@@ -11,21 +12,18 @@ pub(crate) const OWED: usize = 256;
 // It is seen as the list of the owed edits, the oldest first, at most 256 of them.
 #[derive(Drop)]
 pub struct Journal {
-    // kept: no heap, so a journal is a fixed array and how much of it is used
-    edits: [Edit; OWED],
-    owed: usize,
+    edits: ArrayVec<Edit, OWED>,
 }
 
 impl Model for Journal {
-    ghost use Rattle.std.specs.Prelude.{◌≡◌, ◌≤◌, List, length};
+    ghost use Rattle.std.specs.Prelude.{◌≤◌, List, length};
     ghost use Rattle.sheet.specs.declared.edit.Edit.{Edit};
 
     ghost Value = { List Edit };
 
     ghost use Rattle.sheet.specs.Book.{owed_limit};
-    ghost use Rattle.sheet.specs.Noted.{noted};
 
-    ghost view = { noted };
+    ghost view = { λ a. a.edits.items };
 
-    ghost invariant = { λ a. (a.owed ≤ owed_limit) × (length a.edits ≡ owed_limit) };
+    ghost invariant = { λ a. length a.edits.items ≤ owed_limit };
 }

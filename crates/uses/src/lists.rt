@@ -18,6 +18,7 @@ pub enum Call<T> {
 }
 
 // What a board answers.
+// kept: `Done` apart, since `Said(Ok(()))` would say of a call that it can be refused
 #[derive(Clone, Copy, Debug, PartialEq, Eq)]
 pub enum Answer<T> {
     Sized(usize, usize),

@@ -1,6 +1,7 @@
 // A call along an axis is the call along the other between two transpositions, on any board.
 // kept: `limits` on each call, since it speaks of a board before and after the call, and an invariant speaks of one value. An
-// axis and an index come as a board's own calls take them; a struct would be built for this call and taken apart in it.
+// axis and an index come as a board's own calls take them; a struct would be built for this call and taken apart in it. The two
+// turns stand in each of the three, since a function of a closure over them would state in a clause what two lines do.
 ghost use Rattle.std.specs.Prelude.{◌≡◌};
 ghost use Rattle.cells.specs.Refusals.{answered};
 ghost use Rattle.matrix.specs.Matrix.{Matrix, over};

@@ -1,5 +1,6 @@
 // Making a grid, in two calls: a check that may refuse, and a making that never does.
 // kept: no `Result` of a making, since by the rules a grid always stands over the memory that is lent, empty where refused.
+// kept: `over` on each making, one word for what it gives: it speaks of the memory that was lent, and an invariant of one value.
 // kept: sides and an order come one by one, since a `Shape` has invariants, and these numbers are still to be checked.
 ghost use Rattle.std.specs.Prelude.{◌≡◌, ℕ, ◌*◌, ◌≤◌, length, take};
 ghost use Rattle.matrix.specs.declared.shape.Order.TheVariants.{RowMajor};
@@ -117,6 +118,7 @@ impl<'a, T: Copy> Grid<'a, T> {
     }
 
     // One cell in every place of rows × cols; empty where `new_check` refuses.
+    // kept: no heap, so the memory is lent; no count stands beside it.
     pub fn init_with_order(
         cells: &'a mut [T],
         rows: usize,

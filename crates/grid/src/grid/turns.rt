@@ -45,8 +45,7 @@ impl<'a, T: Copy> Grid<'a, T> {
         self.flip(Axis::Col);
     }
 
-    // kept: two names and two turns; what they share is the transposition alone.
-    // A quarter turn against the clock.
+    // A quarter turn against the clock. It shares the transposition alone with the turn the other way.
     pub fn rotate_left(&mut self)
         ensures effect { matrix self.new ≡ rotate_left (matrix self.old) }
         ensures crosses { Crosses self.old self.new }

@@ -7,7 +7,7 @@ use crate::axis::Axis;
 use crate::shape::{Order, Shape};
 
 impl Order {
-    // kept: a name that says what is exchanged, which `!order` would not.
+    // kept: no derive gives the other of two variants; an `impl` of `Not` would have this body under `!order`, and name nothing.
     pub fn counterpart(self) -> Order
         ensures answer { result ≡ other self }
     {

@@ -33,6 +33,7 @@ pub(crate) fn exchange_all<T: Copy>(calls: &[Call<T>], exchanged: &mut [Call<T>]
     ensures effect { exchanged.new ≡ over (map exchange (take (length exchanged.old) calls.now)) exchanged.old }
 {
     // kept: an index beside the places: tried by `zip` with `iter_mut`, after which a proof knows nothing of what was written.
+    // A list is run by a loop like this, in which each call moves the sheet: a closure could not hold it from call to call.
     for (k, place) in exchanged.iter_mut().enumerate() {
         if let Some(call) = calls.get(k) {
             *place = call.exchanged();

@@ -5,7 +5,8 @@ ghost use Rattle.keeps.specs.Kept.{newest, older};
 ghost use Rattle.sheet.specs.Book.{owed_limit};
 
 use crate::edit::Edit;
-use crate::journal::{Journal, OWED};
+use crate::journal::Journal;
+use arrayvec::ArrayVec;
 use cells::refusal::Refusal;
 
 impl Journal {
@@ -13,22 +14,21 @@ impl Journal {
         ensures effect { result ≡ [] }
     {
         Journal {
-            edits: [Edit::Transpose; OWED],
-            owed: 0,
+            edits: ArrayVec::new(),
         }
     }
 
     pub(crate) fn count(&self) -> usize
         ensures answer { result ≡ length self.now }
     {
-        self.owed
+        self.edits.len()
     }
 
     // Whether one more edit may be owed.
     pub(crate) fn room(&self) -> Result<(), Refusal>
         ensures answer { result ≡ refused 10 (nat_le owed_limit (length self.now)) accepted }
     {
-        if OWED <= self.owed {
+        if self.edits.is_full() {
             return Err(Refusal::Journal);
         }
         Ok(())
@@ -37,21 +37,18 @@ impl Journal {
     pub(crate) fn note(&mut self, e: Edit)
         ensures effect { length self.old < owed_limit → self.new ≡ self.old ++ (e ∷ []) }
     {
-        if self.owed < OWED {
-            self.edits[self.owed] = e;
-            self.owed += 1;
-        }
+        let _ = self.edits.try_push(e);
     }
 
     pub(crate) fn last(&self) -> Option<Edit>
         ensures answer { result ≡ newest self.now }
     {
-        self.edits[..self.owed].last().copied()
+        self.edits.as_slice().last().copied()
     }
 
     pub(crate) fn strike(&mut self)
         ensures effect { self.new ≡ older self.old }
     {
-        self.owed = self.owed.saturating_sub(1);
+        let _ = self.edits.pop();
     }
 }

@@ -17,14 +17,10 @@ impl<B: Board, K: Keep<Cell = B::Cell>> OpenSheet<B, K> {
         ensures follows { Follows B.Board K.Keep self.old self.new result (back_said memory.old) (back_book memory.old) }
         ensures leaves { Leaves B.Board K.Keep self.old memory.new (back_memory memory.old) }
     {
-        let Some(edit) = self.journal.last() else {
-            return Err(Refusal::NothingOwed);
-        };
+        let edit = self.journal.last().ok_or(Refusal::NothingOwed)?;
         match edit {
             Edit::Put(r, c) => {
-                let Some(old) = self.keep.take() else {
-                    return Err(Refusal::NothingOwed);
-                };
+                let old = self.keep.take().ok_or(Refusal::NothingOwed)?;
                 let _ = self.board.put(r, c, old);
             }
             Edit::Insert(axis, i, n) => {

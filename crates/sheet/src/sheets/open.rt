@@ -30,9 +30,7 @@ impl<B: Board, K: Keep<Cell = B::Cell>> OpenSheet<B, K> {
     pub fn put(&mut self, r: usize, c: usize, x: B::Cell) -> Result<(), Refusal>
         ensures follows { Follows B.Board K.Keep self.old self.new result (put_said r c) (put_book r c x) }
     {
-        let Some(old) = self.board.get(r, c) else {
-            return Err(Refusal::Place);
-        };
+        let old = self.board.get(r, c).ok_or(Refusal::Place)?;
         self.journal.room()?;
         self.keep.push(old)?;
         let _ = self.board.put(r, c, x);

@@ -35,6 +35,7 @@ impl<B: Board, K: Keep<Cell = B::Cell>> OpenSheet<B, K> {
     }
 
     // Ends the sheet: its board and its keep.
+    // kept: as of a published sheet; open and published sheets are two types, so that neither has the other's calls
     pub fn into_parts(self) -> (B, K)
         ensures board { result.0 ≡ self.board }
         ensures keep { result.1 ≡ self.keep }

@@ -53,6 +53,8 @@ pub fn run<B: Board>(
     ensures limits { B.limits b.new ≡ B.limits b.old }
 {
     // kept: an index beside the answers: tried by `zip` with `iter_mut`, after which a proof knows nothing of what was written.
+    // Lists of a sheet are run by a loop like this. One function for both would be public and require of its closure that it can
+    // be called, as no public function here does; and a trait of one call would need a struct of board, lines and memory for it.
     for (k, answer) in answers.iter_mut().enumerate() {
         if let Some(call) = calls.get(k) {
             *answer = one(b, *call, lines, memory);

@@ -8,7 +8,7 @@ use Rattle.flat.proofs.lines.copy_line.Goals as goal
 pub returns-in-RowMajor : goal.returns-in-RowMajor
 returns-in-RowMajor g c =
     let s = c.args.shape in
-    record { line = copied_row_major (form s) c.args.i c.args.s.now _ _ c.in-RowMajor.is (copied_outer _ _ _ s.rows s.cols c.args.i (omega arith) (omega arith) c.copy.ensures.effect) }
+    record { line = copied_row_major (form s) c.args.i c.args.s.now _ _ c.in-RowMajor.is (copied_outer c.args.s.now _ _ s.rows s.cols c.args.i c.requires.at c.requires.room c.requires.long c.copy.ensures.effect) }
 
 pub returns-after-loop-c : goal.returns-after-loop-c
 returns-after-loop-c g c =

@@ -1,5 +1,5 @@
-use Rattle.std.proofs.Common.{◌≡◌, [], ◌∷◌, map, length, take, set, Some, sym, ap, ◌∙◌, arith, length-take-le}
-use Rattle.std.proofs.lemmas.Option.{slice_get-get_or}
+use Rattle.std.proofs.Common.{◌≡◌, [], ◌∷◌, map, length, take, set, refl, sym, ap, ◌∙◌, arith, length-take-le}
+use Rattle.std.proofs.lemmas.Option.{slice_get_read}
 use Rattle.std.proofs.lemmas.List.{set-get_or, length-map, map-append}
 use Rattle.matrix.specs.Matrix.{over}
 use Rattle.matrix.proofs.Stretches.{take_one_more, over_one_more}
@@ -18,7 +18,7 @@ loop-k-preserved g c =
           let call = v.in-Some.call.now in
           let found = v.in-Some.ensures.lookup in
           let inside = found.3.0 in
-          let more = take_one_more a.calls.now l.k call (slice_get-get_or a.calls.now l.k call inside ∙ ap Some (sym found.1)) in
+          let more = take_one_more a.calls.now l.k call (slice_get_read a.calls.now (length a.calls.now) l.k call refl inside found.1) in
           let long : length (map exchange was) ≡ l.k = length-map was exchange ∙ length-take-le l.k a.calls.now (omega arith) in
           v.exchanged-is ∙ ap (λ z. set z l.k v.exchanged.result) l.invariant ∙ ap (λ z. set (over (map exchange was) a.exchanged.now) l.k z) v.exchanged.ensures.answer
           ∙ over_one_more (map exchange was) a.exchanged.now l.k (exchange call) (sym long) (omega arith)

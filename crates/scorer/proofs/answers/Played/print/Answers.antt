@@ -8,10 +8,3 @@ loop-item-preserved g c clean =
     let one = c.in_ok-print_item.ensures.outcome clean in
     let before = c.loop-item.invariant one.0 in
     (before.0, All-more (λ item. IsOk item.ask) c.deref-item-items.result.now c.loop-item.item-index _ (search rules) before.1 one.1)
-
-pub returns : goal.returns
-returns g c = record {
-  outcome = λ clean.
-      let all = c.loop-item.invariant clean in
-      (all.0, subst AllAsked (take_all c.loop-item.item-index c.deref-item-items.result.now (search rules) ∙ c.deref-item-items.ensures.value) all.1);
-}

@@ -1,7 +1,8 @@
-use Rattle.std.proofs.Common.{◌≡◌, ◌≤◌, ◌++◌, length, drop, Some, sym, refl, ap, ◌∙◌, arith, length-take-le, take_at}
+use Rattle.std.proofs.Common.{◌≡◌, ◌≤◌, ◌++◌, length, drop, Some, Err, rules, sym, refl, ap, ◌∙◌, arith, length-take-le, take_at}
 use Rattle.cells.specs.Refusals.{answered}
 use Rattle.matrix.specs.Matrix.{turned}
 use Rattle.keeps.specs.Kept.{older}
+use Rattle.cells.specs.declared.refusal.Refusal.TheVariants.{NothingOwed}
 use Rattle.sheet.specs.declared.edit.Edit.{Edit}
 use Rattle.sheet.specs.declared.edit.Edit.TheVariants.{Put, Insert, Remove, Transpose, Flip}
 use Rattle.matrix.specs.Axes.{flipped, inserted, insert_along}
@@ -9,25 +10,29 @@ use Rattle.sheet.specs.Book.{Book, kept}
 use Rattle.sheet.specs.Sheets.{Stands}
 use Rattle.sheet.proofs.Backs.{Newest, Back, back_by, is_newest, back_nothing, back_short, back_done, same_keep, can_undo, undo_insert, undo_put, undo_remove, put_cell_back, keep_ends}
 use Rattle.sheet.proofs.sheets.OpenSheet.step_back.Goals as goal
-use Rattle.sheet.proofs.sheets.OpenSheet.step_back.Goals.{in-Put+in-Some-take, in-Insert+else-memory-n, in-Remove+else-memory-n-2, in-Transpose, in-Flip}
+use Rattle.sheet.proofs.sheets.OpenSheet.step_back.Goals.{in-Put+in_ok-old-in-Put, in-Insert+else-memory-n, in-Remove+else-memory-n-2, in-Transpose, in-Flip}
 
-pub returns-in_default : goal.returns-in_default
-returns-in_default g c = record {
-  follows = λ b h. (back_nothing h c.args.memory.now (sym c.in_default.is ∙ c.last.ensures.answer)).0;
-  leaves = λ b h. (back_nothing h c.args.memory.now (sym c.in_default.is ∙ c.last.ensures.answer)).1;
-}
+pub returns-in_err-edit : goal.returns-in_err-edit
+returns-in_err-edit g c =
+    let is : c.from_residual.result ≡ Err NothingOwed = search rules in
+    let none = sym c.in_err-edit.ensures.ok_part ∙ c.last.ensures.answer in
+    record {
+      follows = λ b h. rw is (back_nothing h c.args.memory.now none).0;
+      leaves = λ b h. (back_nothing h c.args.memory.now none).1;
+    }
 
-pub returns-in_default-take : goal.returns-in_default-take
-returns-in_default-take g c =
+pub returns-in_err-old-in-Put : goal.returns-in_err-old-in-Put
+returns-in_err-old-in-Put g c =
     let none : (b : Book g.row.B-Cell.Denot) → Stands g.B.Board g.K.Keep c.args.self.now b → ⊥ = λ b h.
-    let nw = is_newest h (Put c.in-Put.r c.in-Put.c) (ap Some (sym c.in-Put.is) ∙ sym c.in-Some.is ∙ c.last.ensures.answer) in
-    c.in_default-take.not-Some _ (put_cell_back h c.args.memory.now c.in-Put.r c.in-Put.c nw c.take.result (c.take.ensures.answer h.ordered)).1.0 in
+    let nw = is_newest h (Put c.in-Put.r c.in-Put.c) (ap Some (sym c.in-Put.is) ∙ sym c.in_ok-edit.ensures.ok_part ∙ c.last.ensures.answer) in
+    let there = (put_cell_back h c.args.memory.now c.in-Put.r c.in-Put.c nw c.take.result (c.take.ensures.answer h.ordered)).1.0 in
+    search (rules, c.in_err-old-in-Put.ensures.ok_part, there) in
     record { follows = λ b h. absurd (none b h); leaves = λ b h. absurd (none b h) }
 
 pub returns-then-memory-n : goal.returns-then-memory-n
 returns-then-memory-n g c =
     let e = Insert c.in-Insert.axis c.in-Insert.i c.in-Insert.n in
-    let newest = ap Some (sym c.in-Insert.is) ∙ sym c.in-Some.is ∙ c.last.ensures.answer in
+    let newest = ap Some (sym c.in-Insert.is) ∙ sym c.in_ok-edit.ensures.ok_part ∙ c.last.ensures.answer in
     record {
       follows = λ b h. (back_short h e (is_newest h e newest) c.args.memory.now (omega arith)).0;
       leaves = λ b h. (back_short h e (is_newest h e newest) c.args.memory.now (omega arith)).1;
@@ -36,7 +41,7 @@ returns-then-memory-n g c =
 pub returns-then-memory-n-2 : goal.returns-then-memory-n-2
 returns-then-memory-n-2 g c =
     let e = Remove c.in-Remove.axis c.in-Remove.i c.in-Remove.n in
-    let newest = ap Some (sym c.in-Remove.is) ∙ sym c.in-Some.is ∙ c.last.ensures.answer in
+    let newest = ap Some (sym c.in-Remove.is) ∙ sym c.in_ok-edit.ensures.ok_part ∙ c.last.ensures.answer in
     record {
       follows = λ b h. (back_short h e (is_newest h e newest) c.args.memory.now (omega arith)).0;
       leaves = λ b h. (back_short h e (is_newest h e newest) c.args.memory.now (omega arith)).1;
@@ -51,16 +56,16 @@ returns g c =
     let m = board.matrix was.board in
     let l = board.limits was.board in
     let done : (b : Book g.row.B-Cell.Denot) → Stands board keep was b → Back board keep c.match-edit.self c.strike.new.self c.match-edit.memory memory b = λ b h.
-    let newest : (e : Edit) → c.in-Some.edit ≡ e → Newest b e = λ e is. is_newest h e (ap Some (sym is) ∙ sym c.in-Some.is ∙ c.last.ensures.answer) in
+    let newest : (e : Edit) → c.in_ok-edit.edit ≡ e → Newest b e = λ e is. is_newest h e (ap Some (sym is) ∙ sym c.in_ok-edit.ensures.ok_part ∙ c.last.ensures.answer) in
     elim c.match-edit.branch [
-      | in-Put+in-Some-take w ↦
+      | in-Put+in_ok-old-in-Put w ↦
           let r = w.in-Put.r in
           let col = w.in-Put.c in
           let took = w.take.ensures in
           let put = w.put.ensures in
           let struck = c.strike.ensures.effect ∙ ap (λ s. older s.journal) w.self-is in
           back_by board keep memory b w.self-is w.memory-is
-          (undo_put h memory r col (newest (Put r col) w.in-Put.is) w.put.result w.in-Some-take.old (took.ordered h.ordered) (sym w.in-Some-take.is ∙ took.answer h.ordered) (took.effect h.ordered) put.answer put.effect put.limits struck)
+          (undo_put h memory r col (newest (Put r col) w.in-Put.is) w.put.result w.in_ok-old-in-Put.old (took.ordered h.ordered) (sym w.in_ok-old-in-Put.ensures.ok_part ∙ took.answer h.ordered) (took.effect h.ordered) put.answer put.effect put.limits struck)
       | in-Insert+else-memory-n w ↦
           let i = w.in-Insert in
           let out = w.remove.ensures in

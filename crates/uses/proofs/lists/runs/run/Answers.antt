@@ -1,6 +1,6 @@
-use Rattle.std.proofs.Common.{Some, sym, ap, ◌∙◌, arith}
+use Rattle.std.proofs.Common.{length, refl, ap, ◌∙◌, arith}
 use Rattle.std.proofs.lemmas.List.{set-get_or}
-use Rattle.std.proofs.lemmas.Option.{slice_get-get_or}
+use Rattle.std.proofs.lemmas.Option.{slice_get_read}
 use Rattle.uses.specs.Lists.{State}
 use Rattle.uses.proofs.Runs.{ran_more, ran_past}
 use Rattle.uses.proofs.lists.runs.run.Goals as goal
@@ -20,7 +20,7 @@ loop-k-preserved g c =
           let inside = found.3.0 in
           let is : State g.row.B-Cell.Denot = record { matrix = g.B.Board.matrix w.one.new.b; memory = w.one.new.memory } in
           let p = ran_more (g.B.Board.limits a.b.now) a.lines.now a.calls.now start a.answers.now l.k (g.B.Board.limits l.b) (g.B.Board.limits w.one.new.b) was is l.answers call w.one.result
-          (slice_get-get_or a.calls.now l.k call inside ∙ ap Some (sym found.1)) inside (omega arith) made.answer made.effect made.limits l.invariant in
+          (slice_get_read a.calls.now (length a.calls.now) l.k call refl inside found.1) inside (omega arith) made.answer made.effect made.limits l.invariant in
           record { limits = ap g.B.Board.limits w.b-is ∙ p.limits; state = (λ i. record { matrix = g.B.Board.matrix (w.b-is i); memory = w.memory-is i }) ∙ p.state; said = w.answers-is ∙ p.said }
       | in_default w ↦
           let p = ran_past (g.B.Board.limits a.b.now) a.lines.now a.calls.now start a.answers.now l.k (g.B.Board.limits l.b) was l.answers w.in_default.ensures.lookup.3 l.invariant in
