@@ -2,6 +2,10 @@
 #![tactic(auto)]
 
 #[cfg(test)]
+mod any_board;
+#[cfg(test)]
+mod expect;
+#[cfg(test)]
 mod limits;
 #[cfg(test)]
 mod lists;

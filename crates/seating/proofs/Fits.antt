@@ -1,10 +1,12 @@
 -- Cells under a seating that they are enough for.
 use Rattle.std.proofs.Common.{◌≡◌, ℕ, ◌*◌, ◌<◌, ◌≤◌, List, length, set, sym, ap, ◌∙◌, arith, length-set}
 use Rattle.std.proofs.lemmas.Bool.Decides.{nat_tests}
+use Rattle.matrix.specs.declared.axis.Axis.{Axis}
+use Rattle.matrix.specs.Axes.{other}
 use Rattle.matrix.specs.Matrix.{Matrix, put_cell}
 use Rattle.matrix.proofs.Held.{placed, put_placed}
 use Rattle.seating.specs.declared.seating.Seating.{Seating}
-use Rattle.seating.specs.Seats.{seen, seated, counted, spot_of}
+use Rattle.seating.specs.Seats.{seen, seated, counted, bench_of, spot_of}
 use Rattle.seating.proofs.Spots.{seats_apart}
 
 pub counted_in : (s : Seating) (n k : ℕ) → s.down.side * s.down.side ≤ n → counted s n k ≡ k
@@ -12,6 +14,10 @@ counted_in s n k h = grind (arith, nat_tests)
 
 pub counted_out : (s : Seating) (n k : ℕ) → n < s.down.side * s.down.side → counted s n k ≡ 0
 counted_out s n k h = grind (arith, nat_tests)
+
+-- the lines across an axis, of those that are counted
+pub across_counted : (ax : Axis) (s : Seating) (n : ℕ) (lines : ℕ × ℕ) → lines ≡ (counted s n (bench_of ax s).count, counted s n (bench_of (other ax) s).count) → s.down.side * s.down.side ≤ n → lines.1 ≡ (bench_of (other ax) s).count
+across_counted ax s n lines e h = ap (λ (p : ℕ × ℕ). p.1) e ∙ counted_in s n (bench_of (other ax) s).count h
 
 pub seated_in : {T : Type 0} (s : Seating) (xs : List T) → s.down.side * s.down.side ≤ length xs → seated s xs ≡ seen s xs
 seated_in s xs h =

@@ -1,7 +1,8 @@
 pub mod Tables
 pub mod Spots
-pub mod Seatings
 pub mod Fits
-pub mod Exchanges
+pub mod Along
+pub mod Seatings
+pub mod Copies
 pub mod Owes
 pub mod Faces

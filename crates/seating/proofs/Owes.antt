@@ -1,11 +1,10 @@
 -- What every board owes, shown of cells on seats.
-use Rattle.std.proofs.Common.{◌≡◌, ℕ, ◌*◌, ◌<◌, ◌≤◌, List, length, get_or, Some, sym, ◌∙◌, ⊎_elim, mul-le-mul, arith}
+use Rattle.std.proofs.Common.{◌≡◌, ℕ, ◌+◌, ◌*◌, ◌<◌, ◌≤◌, List, length, get_or, Some, sym, ◌∙◌, ⊎_elim, mul-le-mul, arith}
 use Rattle.std.specs.List.{slice_get}
 use Rattle.std.proofs.lemmas.Option.{slice_get-get_or}
 use Rattle.std.proofs.lemmas.Bool.{cases_lt}
 use Rattle.std.proofs.lemmas.Bool.Decides.{nat_tests}
 use Rattle.matrix.specs.declared.axis.Axis.{Axis}
-use Rattle.matrix.specs.declared.axis.Axis.TheVariants.{Row, Col}
 use Rattle.matrix.specs.Axes.{along}
 use Rattle.matrix.specs.Rules.{Within}
 use Rattle.matrix.proofs.Cells.{present}
@@ -14,12 +13,11 @@ use Rattle.matrix.proofs.Products.{line_ends, sides_within}
 use Rattle.matrix.proofs.Whole.{inside_in, inside_below, inside_right}
 use Rattle.seating.specs.declared.seating.Seating.{Seating}
 use Rattle.seating.specs.Benches.{seat}
-use Rattle.seating.specs.Seats.{spot, counted, seated, seated_limits, spot_of}
+use Rattle.seating.specs.Seats.{counted, seated, seated_limits, spot_of}
 use Rattle.seating.proofs.Fits.{counted_in, counted_out}
 
-pub spot_within : (lying : Axis) (side a b : ℕ) → a < side → b < side → spot lying side a b < side * side
-spot_within Row side a b ha hb = omega (arith, line_ends a side side ha)
-spot_within Col side a b ha hb = omega (arith, line_ends b side side hb)
+pub spot_within : (side a b : ℕ) → a < side → b < side → a * side + b < side * side
+spot_within side a b ha hb = omega (arith, line_ends a side side ha)
 
 -- the flat place of a row and a column that are there, in n cells of memory
 pub spot_in : (s : Seating) (n r c : ℕ) → r < counted s n s.down.count → c < counted s n s.across.count → spot_of s r c < n
@@ -33,7 +31,7 @@ spot_in s n r c hr hc = ⊎_elim
     let cs = s.across.small.1 in
     let a = s.down.below r (omega arith) in
     let b = s.across.below c (omega arith) in
-    omega (arith, spot_within s.lying s.down.side (seat s.down r) (seat s.across c) a (omega arith)))
+    omega (arith, spot_within s.down.side (seat s.down r) (seat s.across c) a (omega arith)))
     (cases_lt n (s.down.side * s.down.side))
 
 module _ {T : Type 0} (s : Seating) (xs : List T) where

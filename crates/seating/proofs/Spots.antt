@@ -8,27 +8,30 @@ use Rattle.matrix.proofs.Cells.{nth_set_same, nth_set_other}
 use Rattle.matrix.proofs.Products.{line_apart}
 use Rattle.seating.specs.declared.seating.Seating.{Seating}
 use Rattle.seating.specs.Benches.{seat}
-use Rattle.seating.specs.Seats.{spot, spot_of}
-use Rattle.seating.specs.Lines.{Written}
-
-pub spot_apart : (lying : Axis) (side a b c d : ℕ) → a < side → b < side → c < side → d < side → spot lying side a b ≡ spot lying side c d → (a ≡ c) × (b ≡ d)
-spot_apart Row side a b c d ha hb hc hd e = line_apart side a b c d hb hd e
-spot_apart Col side a b c d ha hb hc hd e = let p = line_apart side b a d c ha hc e in (p.1, p.0)
+use Rattle.seating.specs.Seats.{spot_of}
+use Rattle.seating.specs.Lines.{line_spots, Written}
 
 -- two lines' places are one only where row and column are
 pub seats_apart : (s : Seating) (r c i j : ℕ) → r < s.down.side → c < s.down.side → i < s.down.side → j < s.down.side → spot_of s r c ≡ spot_of s i j → (r ≡ i) × (c ≡ j)
 seats_apart s r c i j hr hc hi hj e =
     let q = s.square in
-    let p = spot_apart s.lying s.down.side (seat s.down r) (seat s.across c) (seat s.down i) (seat s.across j)
-    (s.down.below r hr) (let l = s.across.below c (omega arith) in omega arith) (s.down.below i hi) (let l = s.across.below j (omega arith) in omega arith) e in
+    let b = s.across.below c (omega arith) in
+    let d = s.across.below j (omega arith) in
+    let p = line_apart s.down.side (seat s.down r) (seat s.across c) (seat s.down i) (seat s.across j) (omega arith) (omega arith) e in
     (s.down.once r i (hr, hi, p.0), s.across.once c j (omega arith, omega arith, p.1))
 
-pub written_more : {T : Type 0} (s : Seating) (i : ℕ) (line : List T) (n : ℕ) (xs ys : List T) (x : T) → i < s.down.side → n < s.down.side → spot_of s i n < length xs → slice_get line n ≡ Some x → Written (spot_of s i) line n xs ys → Written (spot_of s i) line (n + 1) xs (set ys (spot_of s i n) x)
-written_more s i line n xs ys x hi hn hk e w = record {
-  len = length-set ys (spot_of s i n) x ∙ w.len;
+-- two lines along an axis have no place in common
+pub lines_apart : (ax : Axis) (s : Seating) (r c i j : ℕ) → r < s.down.side → c < s.down.side → i < s.down.side → j < s.down.side → line_spots ax r s c ≡ line_spots ax i s j → (r ≡ i) × (c ≡ j)
+lines_apart Row s r c i j hr hc hi hj e = seats_apart s r c i j hr hc hi hj e
+lines_apart Col s r c i j hr hc hi hj e = let p = seats_apart s c r j i hc hr hj hi e in (p.1, p.0)
+
+-- one more cell of a line, at a flat place of its own
+pub written_more : {T : Type 0} (at : ℕ → ℕ) (line : List T) (n : ℕ) (xs ys : List T) (x : T) → ((c : ℕ) → c < n + 1 → at c ≡ at n → c ≡ n) → at n < length xs → slice_get line n ≡ Some x → Written at line n xs ys → Written at line (n + 1) xs (set ys (at n) x)
+written_more at line n xs ys x apart hk e w = record {
+  len = length-set ys (at n) x ∙ w.len;
   put = λ c h. ⊎_elim
-      (λ (q : c ≡ n). ap (λ j. slice_get (set ys (spot_of s i n) x) (spot_of s i j)) q ∙ nth_set_same ys (spot_of s i n) x (omega (arith, w.len)) ∙ sym e ∙ ap (slice_get line) (sym q))
-      (λ (q : c ≡ n → ⊥). nth_set_other ys (spot_of s i n) (spot_of s i c) x (λ z. q (seats_apart s i c i n hi (omega arith) hi hn z).1) ∙ w.put c (omega arith))
+      (λ (q : c ≡ n). ap (λ j. slice_get (set ys (at n) x) (at j)) q ∙ nth_set_same ys (at n) x (omega (arith, w.len)) ∙ sym e ∙ ap (slice_get line) (sym q))
+      (λ (q : c ≡ n → ⊥). nth_set_other ys (at n) (at c) x (λ z. q (apart c h z)) ∙ w.put c (omega arith))
       (cases_eq c n);
-  rest = λ p h. nth_set_other ys (spot_of s i n) p x (h n (omega arith)) ∙ w.rest p (λ c l. h c (omega arith));
+  rest = λ p h. nth_set_other ys (at n) p x (h n (omega arith)) ∙ w.rest p (λ c l. h c (omega arith));
 }

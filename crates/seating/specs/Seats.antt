@@ -4,19 +4,15 @@ use Rattle.std.specs.List.{slice_get}
 use Rattle.matrix.specs.declared.limits.Limits.{Limits}
 use Rattle.matrix.specs.declared.axis.Axis.{Axis}
 use Rattle.matrix.specs.declared.axis.Axis.TheVariants.{Row, Col}
-use Rattle.matrix.specs.Axes.{other, pair}
+use Rattle.matrix.specs.Axes.{other}
 use Rattle.matrix.specs.Matrix.{Matrix, inside, spliced, skipped, left_across}
 use Rattle.seating.specs.declared.bench.Bench.{Bench}
 use Rattle.seating.specs.declared.seating.Seating.{Seating}
 use Rattle.seating.specs.Benches.{seat}
 
--- the flat place of a row's seat a and a column's seat b, where the rows lie along an axis of the flat cells
-abbrev pub spot : Axis → ℕ → ℕ → ℕ → ℕ
-spot lying side a b = (pair lying a b).0 * side + (pair lying a b).1
-
 -- the flat place of row r and column c
 abbrev pub spot_of : Seating → ℕ → ℕ → ℕ
-spot_of s r c = spot s.lying s.down.side (seat s.down r) (seat s.across c)
+spot_of s r c = seat s.down r * s.down.side + seat s.across c
 
 -- the matrix that the tables pick out of the cells
 abbrev pub seen : {T : Type 0} → Seating → List T → Matrix T
@@ -54,29 +50,18 @@ abbrev pub bench_of : Axis → Seating → Bench
 bench_of Row s = s.down
 bench_of Col s = s.across
 
--- t is s with rows and columns exchanged
-abbrev pub Exchanged : Seating → Seating → Type 0
-Exchanged s t = (t.down ≡ s.across) × (t.across ≡ s.down) × (t.lying ≡ other s.lying)
+-- new is old with line i along an axis on a seat that was free, and n lines across
+pub record Opened (ax : Axis) (old new : Seating) (i n : ℕ) : Type 0 where
+  pub seats : (k : ℕ) → k < (bench_of ax old).count + 1 → seat (bench_of ax new) k ≡ spliced i (seat (bench_of ax old) (bench_of ax old).count) (λ j. seat (bench_of ax old) j) k
+  pub lines : (bench_of ax new).count ≡ (bench_of ax old).count + 1
+  pub side : (bench_of ax new).side ≡ (bench_of ax old).side
+  pub across : (bench_of (other ax) new).table ≡ (bench_of (other ax) old).table
+  pub cells : (bench_of (other ax) new).count ≡ n
 
--- t is s with the lines along an axis as its rows
-abbrev pub Faced : Axis → Seating → Seating → Type 0
-Faced Row s t = t ≡ s
-Faced Col s t = Exchanged s t
-
--- new is old with row i on a seat that was free, and the line written there
-pub record Opened (old new : Seating) (i n : ℕ) : Type 0 where
-  pub seats : (k : ℕ) → k < old.down.count + 1 → seat new.down k ≡ spliced i (seat old.down old.down.count) (λ j. seat old.down j) k
-  pub rows : new.down.count ≡ old.down.count + 1
-  pub side : new.down.side ≡ old.down.side
-  pub across : new.across.table ≡ old.across.table
-  pub cols : new.across.count ≡ n
-  pub lying : new.lying ≡ old.lying
-
--- new is old without row i
-pub record Closed (old new : Seating) (i : ℕ) : Type 0 where
-  pub seats : (k : ℕ) → k < old.down.count - 1 → seat new.down k ≡ seat old.down (skipped i k)
-  pub rows : new.down.count ≡ old.down.count - 1
-  pub side : new.down.side ≡ old.down.side
-  pub across : new.across.table ≡ old.across.table
-  pub cols : new.across.count ≡ left_across old.down.count old.across.count
-  pub lying : new.lying ≡ old.lying
+-- new is old without line i along an axis
+pub record Closed (ax : Axis) (old new : Seating) (i : ℕ) : Type 0 where
+  pub seats : (k : ℕ) → k < (bench_of ax old).count - 1 → seat (bench_of ax new) k ≡ seat (bench_of ax old) (skipped i k)
+  pub lines : (bench_of ax new).count ≡ (bench_of ax old).count - 1
+  pub side : (bench_of ax new).side ≡ (bench_of ax old).side
+  pub across : (bench_of (other ax) new).table ≡ (bench_of (other ax) old).table
+  pub cells : (bench_of (other ax) new).count ≡ left_across (bench_of ax old).count (bench_of (other ax) old).count

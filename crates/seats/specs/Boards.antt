@@ -3,11 +3,11 @@ use Rattle.std.specs.Prelude.{ℕ, ◌*◌, ◌||◌, length, Result, nat_lt}
 use Rattle.cells.specs.declared.refusal.Refusal.{Refusal}
 use Rattle.cells.specs.Refusals.{refused, accepted, answered}
 use Rattle.matrix.specs.declared.limits.Limits.{Limits}
-use Rattle.matrix.specs.Axes.{along}
+use Rattle.matrix.specs.Axes.{along, pair}
 use Rattle.matrix.specs.Matrix.{Matrix}
 use Rattle.matrix.specs.Rules.{side_limit}
 use Rattle.seats.specs.declared.board.SeatBoard.{SeatBoard}
-use Rattle.seating.specs.Seats.{seated, seated_limits}
+use Rattle.seating.specs.Seats.{seated, seated_limits, spot_of}
 
 abbrev pub upright : {T : Type 0} → SeatBoard T → Matrix T
 upright b = seated b.seats b.cells.now
@@ -17,6 +17,10 @@ matrix b = along b.facing (upright b)
 
 abbrev pub limits : {T : Type 0} → SeatBoard T → Limits
 limits b = seated_limits b.seats (length b.cells.now)
+
+-- the flat place of the cell at row r and column c
+abbrev pub flat_place : {T : Type 0} → SeatBoard T → ℕ → ℕ → ℕ
+flat_place b r c = spot_of b.seats (pair b.facing r c).0 (pair b.facing r c).1
 
 -- A seat board of S rows and columns is asked for over N cells of memory.
 abbrev pub seats_answer : ℕ → ℕ → Result Unit Refusal

@@ -8,9 +8,9 @@ use Rattle.matrix.specs.Axes.{inserted, removed, line_of, flipped, insert_along,
 use Rattle.matrix.specs.Runs as runs
 use Rattle.flat.specs.Segments.{part}
 use Rattle.uses.specs.declared.lists.Call.{Call}
-use Rattle.uses.specs.declared.lists.Call.TheVariants.{Size, Get, Put, Insert, Remove, Transpose, Flip}
+use Rattle.uses.specs.declared.lists.Call.TheVariants.{Size, Bounds, Get, Put, Insert, Remove, Transpose, Flip}
 use Rattle.uses.specs.declared.lists.Answer.{Answer}
-use Rattle.uses.specs.declared.lists.Answer.TheVariants.{Sized, Cell, Said, Done}
+use Rattle.uses.specs.declared.lists.Answer.TheVariants.{Sized, Bounded, Cell, Said, Done}
 
 -- a board's matrix, and the memory that removals write to
 pub record State (T : Type 0) : Type 0 where
@@ -19,6 +19,7 @@ pub record State (T : Type 0) : Type 0 where
 
 abbrev pub reply : {T : Type 0} → Limits → List T → Call T → State T → Answer T
 reply l lines Size s = Sized s.matrix.rows s.matrix.cols
+reply l lines Bounds s = Bounded l
 reply l lines (Get r c) s = Cell (s.matrix.cell r c)
 reply l lines (Put r c x) s = Said (put_answer r c s.matrix)
 reply l lines (Insert ax i g) s = Said (insert_along l ax i (part lines g) s.matrix)
@@ -28,6 +29,7 @@ reply l lines (Flip ax) s = Done
 
 abbrev pub next_matrix : {T : Type 0} → Limits → List T → Call T → State T → Matrix T
 next_matrix l lines Size s = s.matrix
+next_matrix l lines Bounds s = s.matrix
 next_matrix l lines (Get r c) s = s.matrix
 next_matrix l lines (Put r c x) s = answered (put_answer r c s.matrix) (put_cell r c x s.matrix) s.matrix
 next_matrix l lines (Insert ax i g) s = answered (insert_along l ax i (part lines g) s.matrix) (inserted ax i (part lines g) s.matrix) s.matrix
@@ -37,6 +39,7 @@ next_matrix l lines (Flip ax) s = flipped ax s.matrix
 
 abbrev pub next_memory : {T : Type 0} → Call T → State T → List T
 next_memory Size s = s.memory
+next_memory Bounds s = s.memory
 next_memory (Get r c) s = s.memory
 next_memory (Put r c x) s = s.memory
 next_memory (Insert ax i g) s = s.memory

@@ -2,6 +2,7 @@
 use cells::refusal::Refusal;
 use flat::segment::Segment;
 use matrix::axis::Axis;
+use matrix::limits::Limits;
 
 pub mod runs;
 
@@ -9,6 +10,7 @@ pub mod runs;
 #[derive(Clone, Copy, Debug, PartialEq, Eq)]
 pub enum Call<T> {
     Size,
+    Bounds,
     Get(usize, usize),
     Put(usize, usize, T),
     Insert(Axis, usize, Segment),
@@ -22,6 +24,7 @@ pub enum Call<T> {
 #[derive(Clone, Copy, Debug, PartialEq, Eq)]
 pub enum Answer<T> {
     Sized(usize, usize),
+    Bounded(Limits),
     Cell(Option<T>),
     Said(Result<(), Refusal>),
     Done,

@@ -37,45 +37,42 @@ fn turn_front(t: &mut [u16], n: usize)
     t[..n].reverse();
 }
 
-// kept: no Model as a list, since `opened` hands out the free seats in their order, which the list of lines has not.
+// kept: no Model as a list, since `open` takes the first of the free seats, whose order the list of lines has not.
 impl Bench {
     // Line i takes the first free seat; later lines move by one.
     // kept: that the side stays is one equation, and a word for it would be no shorter.
-    pub(crate) fn opened(mut self, i: usize) -> Bench
-        requires at { i ≤ self.count }
-        requires room { self.count < self.side }
-        ensures seats { (k : ℕ) → k < self.count + 1 → seat result k ≡ spliced i (seat self self.count) (λ j. seat self j) k }
-        ensures count { result.count ≡ self.count + 1 }
-        ensures side { result.side ≡ self.side }
+    pub(crate) fn open(&mut self, i: usize)
+        requires at { i ≤ self.old.count }
+        requires room { self.old.count < self.old.side }
+        ensures seats { (k : ℕ) → k < self.old.count + 1 → seat self.new k ≡ spliced i (seat self.old self.old.count) (λ j. seat self.old j) k }
+        ensures count { self.new.count ≡ self.old.count + 1 }
+        ensures side { self.new.side ≡ self.old.side }
     {
         let n = self.count;
         shift_in(&mut self.table, i, n);
         self.count = n + 1;
-        self
     }
 
     // Line i goes, and its seat is the first that is free.
-    pub(crate) fn closed(mut self, i: usize) -> Bench
-        requires at { i < self.count }
-        ensures seats { (k : ℕ) → k < self.count - 1 → seat result k ≡ seat self (skipped i k) }
-        ensures count { result.count ≡ self.count - 1 }
-        ensures side { result.side ≡ self.side }
+    pub(crate) fn close(&mut self, i: usize)
+        requires at { i < self.old.count }
+        ensures seats { (k : ℕ) → k < self.old.count - 1 → seat self.new k ≡ seat self.old (skipped i k) }
+        ensures count { self.new.count ≡ self.old.count - 1 }
+        ensures side { self.new.side ≡ self.old.side }
     {
         let n = self.count - 1;
         shift_out(&mut self.table, i, n);
         self.count = n;
-        self
     }
 
     // The first n seats are taken.
-    pub(crate) fn counted(mut self, n: usize) -> Bench
-        requires room { n ≤ self.side }
-        ensures seats { result.table ≡ self.table }
-        ensures count { result.count ≡ n }
-        ensures side { result.side ≡ self.side }
+    pub(crate) fn take(&mut self, n: usize)
+        requires room { n ≤ self.old.side }
+        ensures seats { self.new.table ≡ self.old.table }
+        ensures count { self.new.count ≡ n }
+        ensures side { self.new.side ≡ self.old.side }
     {
         self.count = n;
-        self
     }
 
     // The lines end for end, in place.

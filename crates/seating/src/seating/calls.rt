@@ -3,7 +3,8 @@ ghost use Rattle.std.specs.Prelude.{◌≡◌, ◌*◌, ◌<◌, ◌≤◌, if�
 ghost use Rattle.matrix.specs.Axes.{other};
 ghost use Rattle.matrix.specs.declared.limits.Limits.{Limits};
 ghost use Rattle.seating.specs.Benches.{flipped};
-ghost use Rattle.seating.specs.Seats.{spot_of, counted, seated_limits, spots, bench_of, Faced, Opened, Closed};
+ghost use Rattle.seating.specs.Seats.{spot_of, counted, seated_limits, spots, bench_of, Opened, Closed};
+ghost use Rattle.seating.specs.Lines.{line_spots};
 
 use crate::bench::Bench;
 use crate::seating::Seating;
@@ -12,47 +13,46 @@ use matrix::checks::left_across;
 use matrix::limits::Limits;
 
 impl Seating {
-    // The lines along the axis for its rows: the same cells, seen turned where those are columns.
-    pub(crate) fn along(self, axis: Axis) -> Seating
-        ensures answer { Faced axis self result }
-    {
-        let (down, across) = axis.pair(self.down, self.across);
-        Seating {
-            down,
-            across,
-            lying: self.lying.beneath(axis),
-        }
-    }
-
-    // Row i on the first seat that is free, and n columns.
-    pub(crate) fn opened(self, i: usize, n: usize) -> Seating
-        requires at { i ≤ self.down.count }
+    // Line i along the axis on the first seat that is free, and n lines across.
+    pub(crate) fn open(&mut self, axis: Axis, i: usize, n: usize)
+        requires at { i ≤ (bench_of axis self.old).count }
         requires some { 0 < n }
-        requires tall { self.down.count < self.down.side }
-        requires wide { n ≤ self.down.side }
-        ensures effect { Opened self result i n }
+        requires tall { (bench_of axis self.old).count < self.old.down.side }
+        requires wide { n ≤ self.old.down.side }
+        ensures effect { Opened axis self.old self.new i n }
     {
-        Seating {
-            down: self.down.opened(i),
-            across: self.across.counted(n),
-            lying: self.lying,
+        match axis {
+            Axis::Row => {
+                self.down.open(i);
+                self.across.take(n);
+            }
+            Axis::Col => {
+                self.across.open(i);
+                self.down.take(n);
+            }
         }
     }
 
-    // Without row i, whose seat is free; without a column once no row is left.
-    pub(crate) fn closed(self, i: usize) -> Seating
-        requires at { i < self.down.count }
-        ensures effect { Closed self result i }
+    // Without line i along the axis, whose seat is free; without a line across once none is left.
+    pub(crate) fn close(&mut self, axis: Axis, i: usize)
+        requires at { i < (bench_of axis self.old).count }
+        ensures effect { Closed axis self.old self.new i }
     {
-        let columns = left_across(self.down.count, self.across.count);
-        Seating {
-            down: self.down.closed(i),
-            across: self.across.counted(columns),
-            lying: self.lying,
+        match axis {
+            Axis::Row => {
+                let columns = left_across(self.down.count, self.across.count);
+                self.down.close(i);
+                self.across.take(columns);
+            }
+            Axis::Col => {
+                let rows = left_across(self.across.count, self.down.count);
+                self.across.close(i);
+                self.down.take(rows);
+            }
         }
     }
 
-    // Every seat free; no seats at all where the side is above 256.
+    // Every seat free; no seats at all where the side is above 256. Which seat comes first is free.
     pub fn empty(side: usize) -> Seating
         ensures side { result.down.side ≡ (if nat_le side 256 then side else 0) }
         ensures rows { result.down.count ≡ 0 }
@@ -62,7 +62,6 @@ impl Seating {
         Seating {
             down: bench,
             across: bench,
-            lying: Axis::Row,
         }
     }
 
@@ -90,13 +89,20 @@ impl Seating {
         }
     }
 
+    // How many lines there are along the axis and across over n cells of memory.
+    pub(crate) fn lines(&self, n: usize, axis: Axis) -> (usize, usize)
+        ensures answer { result ≡ (counted self.now n (bench_of axis self.now).count, counted self.now n (bench_of (other axis) self.now).count) }
+    {
+        let (rows, cols) = self.size(n);
+        axis.pair(rows, cols)
+    }
+
     // The lines along the axis end for end, in place.
     pub fn flip(&mut self, axis: Axis)
         ensures table { (bench_of axis self.new).table ≡ flipped (bench_of axis self.old).count (bench_of axis self.old).table }
         ensures count { (bench_of axis self.new).count ≡ (bench_of axis self.old).count }
         ensures side { (bench_of axis self.new).side ≡ (bench_of axis self.old).side }
         ensures across { bench_of (other axis) self.new ≡ bench_of (other axis) self.old }
-        ensures lying { self.new.lying ≡ self.old.lying }
     {
         // kept: each arm is another field, and no step to hand over
         match axis {
@@ -118,6 +124,17 @@ impl Seating {
         }
     }
 
+    // The flat place of cell c of line i along the axis.
+    pub(crate) fn spot_along(&self, axis: Axis, i: usize, c: usize) -> usize
+        requires line { i < self.now.down.side }
+        requires cell { c < self.now.down.side }
+        ensures answer { result ≡ line_spots axis i self.now c }
+        ensures inside { result < self.now.down.side * self.now.down.side }
+    {
+        let (r, c) = axis.pair(i, c);
+        self.spot(r, c)
+    }
+
     // The flat place of row r and column c.
     pub(crate) fn spot(&self, r: usize, c: usize) -> usize
         requires row { r < self.now.down.side }
@@ -127,7 +144,6 @@ impl Seating {
     {
         let a = self.down.table[r] as usize;
         let b = self.across.table[c] as usize;
-        let (a, b) = self.lying.pair(a, b);
         a * self.down.side + b
     }
 }

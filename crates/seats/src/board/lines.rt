@@ -21,9 +21,7 @@ impl<'a, T: Copy> SeatBoard<'a, T> {
         ensures facing { self.new.facing ≡ self.old.facing }
         ensures memory { self.new.cells.ghost_name ≡ self.old.cells.ghost_name }
     {
-        let seats = self.seats;
-        self.seats = edits::insert(self.cells, seats, axis, i, line)?;
-        Ok(())
+        edits::insert(self.cells, &mut self.seats, axis, i, line)
     }
 
     // Line i along the axis of the tables goes into the first cells of the memory, and its seat is free: no cell changes.
@@ -36,8 +34,6 @@ impl<'a, T: Copy> SeatBoard<'a, T> {
         ensures facing { self.new.facing ≡ self.old.facing }
         ensures memory { self.new.cells.ghost_name ≡ self.old.cells.ghost_name }
     {
-        let seats = self.seats;
-        self.seats = edits::remove(self.cells, seats, axis, i, memory)?;
-        Ok(())
+        edits::remove(self.cells, &mut self.seats, axis, i, memory)
     }
 }

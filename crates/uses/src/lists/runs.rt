@@ -23,6 +23,7 @@ fn one<B: Board>(
             let (rows, cols) = b.size();
             Answer::Sized(rows, cols)
         }
+        Call::Bounds => Answer::Bounded(b.bounds()),
         Call::Get(r, c) => Answer::Cell(b.get(r, c)),
         Call::Put(r, c, x) => Answer::Said(b.put(r, c, x)),
         Call::Insert(axis, i, segment) => Answer::Said(b.insert(axis, i, segment.of(lines))),
@@ -62,8 +63,8 @@ pub fn run<B: Board>(
     }
 }
 
-// Two boards with equal matrices and limits answer one list alike: given equal memory they end with equal answers,
-// memory and matrices.
+// The same on two boards, each with memory and answers of its own. Boards with equal matrices and limits answer the list alike:
+// given equal memory and equal slices for the answers, they end with all of it equal.
 pub fn run_both<A: Board, B: Board<Cell = A::Cell>>(
     a: &mut A,
     b: &mut B,
@@ -74,6 +75,12 @@ pub fn run_both<A: Board, B: Board<Cell = A::Cell>>(
     answers_a: &mut [Answer<A::Cell>],
     answers_b: &mut [Answer<A::Cell>],
 )
+    ensures answer_a { answers_a.new ≡ over (replies (A.Board.limits a.old) lines.now (take (length answers_a.old) calls.now) (record { matrix = A.Board.matrix a.old; memory = memory_a.old })) answers_a.old }
+    ensures effect_a { record { matrix = A.Board.matrix a.new; memory = memory_a.new } ≡ after (A.Board.limits a.old) lines.now (take (length answers_a.old) calls.now) (record { matrix = A.Board.matrix a.old; memory = memory_a.old }) }
+    ensures limits_a { A.Board.limits a.new ≡ A.Board.limits a.old }
+    ensures answer_b { answers_b.new ≡ over (replies (B.Board.limits b.old) lines.now (take (length answers_b.old) calls.now) (record { matrix = B.Board.matrix b.old; memory = memory_b.old })) answers_b.old }
+    ensures effect_b { record { matrix = B.Board.matrix b.new; memory = memory_b.new } ≡ after (B.Board.limits b.old) lines.now (take (length answers_b.old) calls.now) (record { matrix = B.Board.matrix b.old; memory = memory_b.old }) }
+    ensures limits_b { B.Board.limits b.new ≡ B.Board.limits b.old }
     ensures alike { Alike (A.Board.matrix a.old) (B.Board.matrix b.old) (A.Board.limits a.old) (B.Board.limits b.old) memory_a.old memory_b.old answers_a.old answers_b.old → Alike (A.Board.matrix a.new) (B.Board.matrix b.new) (A.Board.limits a.new) (B.Board.limits b.new) memory_a.new memory_b.new answers_a.new answers_b.new }
 {
     run(a, calls, lines, memory_a, answers_a);

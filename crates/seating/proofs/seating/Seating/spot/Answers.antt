@@ -8,4 +8,4 @@ returns-clause-inside c =
     let s = c.args.self.now in
     let q = s.square in
     let b = s.across.below c.args.c (omega arith) in
-    rw c.pair-a.ensures.answer (spot_within s.lying s.down.side (seat s.down c.args.r) (seat s.across c.args.c) (s.down.below c.args.r (omega arith)) (omega arith))
+    spot_within s.down.side (seat s.down c.args.r) (seat s.across c.args.c) (s.down.below c.args.r (omega arith)) (omega arith)

@@ -1,20 +1,8 @@
-use Rattle.std.proofs.Common.{length, take, sym, ap, ◌∙◌}
-use Rattle.matrix.specs.Matrix.{over}
-use Rattle.uses.specs.Lists.{State, after, replies}
+use Rattle.uses.proofs.Runs.{alike_after}
 use Rattle.uses.proofs.lists.runs.run_both.Goals as goal
 
-pub returns : goal.returns
-returns g c = record {
-  alike = λ same.
-      let a = c.run.ensures in
-      let b = c.run-2.ensures in
-      let lines = c.args.lines.now in
-      let calls = c.args.calls.now in
-      let left = a.effect ∙ (λ i. after (same.limits i) lines (take (length (same.answers i)) calls) (record { matrix = same.matrix i; memory = same.memory i })) ∙ sym b.effect in
-      record {
-        matrix = ap (λ (s : State g.row.A-Cell.Denot). s.matrix) left;
-        limits = a.limits ∙ same.limits ∙ sym b.limits;
-        memory = ap (λ (s : State g.row.A-Cell.Denot). s.memory) left;
-        answers = a.answer ∙ (λ i. over (replies (same.limits i) lines (take (length (same.answers i)) calls) (record { matrix = same.matrix i; memory = same.memory i })) (same.answers i)) ∙ sym b.answer;
-      };
-}
+pub returns-clause-alike : goal.returns-clause-alike
+returns-clause-alike g c =
+    let a = c.run.ensures in
+    let b = c.run-2.ensures in
+    λ same. alike_after _ _ _ _ _ _ _ _ _ _ _ _ _ _ a.answer a.effect a.limits b.answer b.effect b.limits same

@@ -14,4 +14,4 @@ returns-clause-effect g c =
     let xs = was.cells.now in
     let done = c.flip.ensures in
     faced flip_rows was.facing c.args.axis accepted (seated s xs) (seated t xs)
-    (rw (sym c.beneath-beneath.ensures.answer) (flipped_along c.beneath-beneath.result s t xs done.table done.count done.side done.across done.lying))
+    (rw (sym c.beneath-beneath.ensures.answer) (flipped_along c.beneath-beneath.result s t xs done.table done.count done.side done.across))

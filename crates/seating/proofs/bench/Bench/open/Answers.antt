@@ -1,10 +1,10 @@
 use Rattle.std.proofs.Common.{ℕ, arith}
 use Rattle.seating.proofs.Tables.{came, came_in, came_apart, came_at, reseated_below, reseated_once}
-use Rattle.seating.proofs.bench.Bench.opened.Goals as goal
+use Rattle.seating.proofs.bench.Bench.open.Goals as goal
 
 pub invariant_of-self : goal.invariant_of-self
 invariant_of-self c =
-    let s = c.args.self in
+    let s = c.args.self.now in
     let i : ℕ = c.args.i in
     let u = c.shift_in.new.t in
     let moves = c.shift_in.ensures in
