@@ -1,3 +1,3 @@
 mod Listed
 mod Gains
-pub mod Sounds
+mod Sounds

@@ -1,23 +1,11 @@
 -- Lines that are answered one after another.
-use Rattle.std.proofs.Common.{◌≡◌, ℕ, ◌+◌, ◌<◌, ◌≤◌, List, [], ◌∷◌, ◌++◌, length, take, take_all, get_or, flat_map, Bor, IsOk, ap, ◌∙◌, sym, subst}
+use Rattle.std.proofs.Common.{◌≡◌, ℕ, ◌+◌, ◌<◌, List, [], ◌∷◌, ◌++◌, length, take, get_or, flat_map, Bor, IsOk, ap, ◌∙◌, sym, subst}
 use Rattle.std.proofs.lemmas.List.{take_more, append-nil}
-use Rattle.std.proofs.lemmas.List.Elements.{All-append, All-head, All-more}
+use Rattle.std.proofs.lemmas.List.Elements.{All-append}
 use Rattle.std.proofs.lemmas.Grind.{flat_map-append}
 use Rattle.desk.specs.declared.lines.Line.{Line}
 use Rattle.desk.specs.declared.output.Output.{Output}
 use Rattle.desk.specs.Outcomes.{Answered, Begins, Clean, Sound}
-
-module _ (lines : List Line) (i : ℕ) (start : Output) where
-  -- one line more
-  pub answered_more : (d : Line) (old new : Output) → i < length lines → Answered (take i lines) start old → Answered (get_or lines i d ∷ []) old new → Answered (take (i + 1) lines) start new
-  answered_more d old new l before one clean =
-      let last = one clean in
-      let first = before last.0 in
-      (first.0, All-more (λ line. IsOk line.call) lines i d l first.1 (All-head (λ line. IsOk line.call) (get_or lines i d) [] last.1))
-
-  -- all lines
-  pub answered_all : (new : Output) → length lines ≤ i → Answered (take i lines) start new → Answered lines start new
-  answered_all new l h = subst (λ ls. Answered ls start new) (take_all i lines l) h
 
 begins_append : (xs ys : List Line) → Begins xs → Begins ys → Begins (xs ++ ys)
 begins_append [] ys h k = k

@@ -1,5 +1,5 @@
-// What the programs on a scorer's list share: its lines, standard output, one sheet after another.
-// Programs alone stand on it, so that it may use the heap and standard output, as the libraries below may not.
+// What the program on a scorer's list stands on: its lines, standard output, one sheet after another, whatever a sheet is.
+// A program alone stands on it, so that it may use the heap and standard output, as the libraries below may not.
 #![tactic(auto)]
 
 pub mod lines;

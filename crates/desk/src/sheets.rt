@@ -1,7 +1,7 @@
 // The sheets of a list, one after another.
 // kept: `lines` on each call, since it speaks of an output before and after it, so that no invariant says it.
 ghost use Rattle.std.specs.Prelude.{◌≡◌, [], IfOk, IsOk, flat_map};
-ghost use Rattle.desk.specs.Outcomes.{Answered, Begins, Clean, Lacks, Sound};
+ghost use Rattle.desk.specs.Outcomes.{Answered, Begins, Clean, Sound};
 
 use crate::lines::Line;
 use crate::output::Output;
@@ -14,6 +14,7 @@ use listing::wrong::Wrong;
 use std::alloc::{AllocError, Global};
 
 // The sheets that a program has.
+// kept: a trait with one implementation, since boards, keeps and lists of calls stand in the program, above this crate.
 pub trait Sheets {
     // Answers the lines of a sheet that is made.
     fn answer<'a, T: Written>(
@@ -22,10 +23,6 @@ pub trait Sheets {
         lines: &'a [Line<'a>],
     ) -> anyhow::Result<Output<'a>>
         ensures lines { IfOk result (λ o. Answered lines.now out.entry o) };
-
-    // Why a call has no answer where no sheet stands before it.
-    fn lacking(call: Call<'_>) -> Wrong
-        ensures lacks { Lacks call.entry result };
 }
 
 // Answers all lines. A sheet answers its own, from the line that makes it up to the one that makes the next.
@@ -63,27 +60,24 @@ fn answer_group<'a, S: Sheets>(
     };
     let first = *first;
     let Ok(Call::New(fresh)) = first.call else {
-        return no_sheet::<S>(out, lines);
+        return no_sheet(out, lines);
     };
     let made = ground_check(fresh.layout.ground);
     out.answer::<Passage>(Answer::Done(made))?;
     match (made, fresh.kind) {
-        (Err(_), _) => no_sheet::<S>(out, rest),
+        (Err(_), _) => no_sheet(out, rest),
         (Ok(()), SheetKind::Passages) => S::answer::<Passage>(out, fresh, rest),
         (Ok(()), SheetKind::Penalties) => S::answer::<Penalty>(out, fresh, rest),
     }
 }
 
 // Lines that no sheet stands before: each is answered by an error.
-fn no_sheet<'a, S: Sheets>(mut out: Output<'a>, lines: &[Line<'_>]) -> anyhow::Result<Output<'a>>
+fn no_sheet<'a>(mut out: Output<'a>, lines: &[Line<'_>]) -> anyhow::Result<Output<'a>>
     ensures lines { IfOk result (λ o. Answered lines.now out.entry o) }
     ensures none { IfOk result (λ o. Clean o → lines.now ≡ []) }
 {
     for line in lines {
-        let wrong = match line.call {
-            Ok(call) => S::lacking(call),
-            Err(wrong) => wrong,
-        };
+        let wrong = line.call.err().unwrap_or(Wrong::NoSheet);
         out.error(line.number, wrong)?;
     }
     Ok(out)

@@ -106,6 +106,5 @@ Reads ws (Err (Wrong.Usage name)) = (rest : List (List ℕ)) × (ws ≡ name_wor
 Reads ws (Err (Wrong.NoSheet)) = ⊥
 Reads ws (Err (Wrong.Late)) = ⊥
 Reads ws (Err (Wrong.NoCell kind at)) = ⊥
-Reads ws (Err (Wrong.NotYet name)) = ⊥
 Reads ws (Err (Wrong.Published)) = ⊥
 Reads ws (Err (Wrong.Open)) = ⊥

@@ -6,7 +6,6 @@ use Rattle.listing.specs.declared.name.Name.TheVariants.{New, Start, Put, Insert
 use Rattle.listing.specs.declared.call.SheetKind.TheVariants.{Passages, Penalties}
 use Rattle.listing.specs.declared.wrong.Wrong.{Wrong}
 use Rattle.listing.specs.declared.wrong.Failure.{Failure}
-use Rattle.listing.specs.Names.{name_word}
 
 -- how a call is written, and a call that is its name alone has no more words
 abbrev pub usage : Name → List ℕ
@@ -37,7 +36,6 @@ wrong_text Wrong.NoSheet = codes "no sheet: begin with new"
 wrong_text Wrong.Late = codes "start: the sheet's first call was made"
 wrong_text (Wrong.NoCell Passages at) = codes "cell " ++ decimal at ++ codes ": expected -, thousandths up to 4294967295, DNS, DNF, DSQ or OFF"
 wrong_text (Wrong.NoCell Penalties at) = codes "cell " ++ decimal at ++ codes ": expected thousandths from -2147483648 to 2147483647"
-wrong_text (Wrong.NotYet name) = name_word name ++ codes ": not here yet"
 wrong_text Wrong.Published = codes "the sheet is published: reopen it before this call"
 wrong_text Wrong.Open = codes "the sheet is open: publish it before this call"
 

@@ -22,8 +22,6 @@ pub enum Wrong {
     Late,
     // Cell number `.1` of the line, from 1, is none of the sheet's kind.
     NoCell(SheetKind, usize),
-    // The program does not have the call yet.
-    NotYet(Name),
     // A published sheet does not have the call.
     Published,
     // An open sheet does not have the call.
@@ -59,7 +57,6 @@ impl Display for Wrong {
                 f,
                 "cell {at}: expected thousandths from -2147483648 to 2147483647"
             ),
-            Wrong::NotYet(name) => write!(f, "{name}: not here yet"),
             Wrong::Published => f.write_str("the sheet is published: reopen it before this call"),
             Wrong::Open => f.write_str("the sheet is open: publish it before this call"),
         }

@@ -61,6 +61,9 @@ module _ {B K T : Type 0} (as_board : Board B T) (as_keep : Keep K T) where
             cells = ap as_board.matrix b ∙ has.cells;
             owes = owes;
             count = subst (λ z. total accepts made z ≡ end.owed + total backs made z + total settles made z) (sym said) (omega (arith, owes, has.count, sums.accepted, sums.back, sums.settled));
+            accepted = subst (λ z. (after pool made start).book.accepted ≡ start.book.accepted + total accepts made z) (sym said) sums.accepted;
+            back = subst (λ z. (after pool made start).book.back ≡ start.book.back + total backs made z) (sym said) sums.back;
+            settled = subst (λ z. (after pool made start).book.settled ≡ start.book.settled + total settles made z) (sym said) sums.settled;
             keeps = ap (λ z. (as_keep.store z).cells) k ∙ has.keeps;
             in_order = subst as_keep.ordered (sym k) has.in_order;
             bounds = ap as_board.limits b ∙ has.bounds ∙ sums.limits;

@@ -29,5 +29,5 @@ calls = Put 0 1 (penalty 2000) ∷ Remove Row 0 all ∷ Owed ∷ Kept ∷ StepBa
 pub record Cases : Type 0 where
   pub on_boards : boards.Cases
   pub answers : replies [] calls none ≡ Said (Ok tt) ∷ Said (Ok tt) ∷ Count 2 ∷ Count 3 ∷ Said (Ok tt) ∷ Count 1 ∷ Said (Ok tt) ∷ Count 0 ∷ []
-  pub cells : flat RowMajor (after [] calls none).book.matrix ≡ penalty 0 ∷ penalty 0 ∷ penalty 0 ∷ penalty 0 ∷ []
+  pub cells : ((after [] calls none).book.matrix.rows ≡ 2) × ((after [] calls none).book.matrix.cols ≡ 2) × (flat RowMajor (after [] calls none).book.matrix ≡ penalty 0 ∷ penalty 0 ∷ penalty 0 ∷ penalty 0 ∷ [])
   pub line : (after [] calls none).memory ≡ penalty 0 ∷ penalty 2000 ∷ []

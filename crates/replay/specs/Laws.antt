@@ -90,6 +90,10 @@ pub record Law {B K T : Type 0} (as_board : Board B T) (as_keep : Keep K T) (end
   pub owes : end.owed ≡ length (after pool calls w).book.entries
   -- edits accepted, counted from the answers, are owed, stepped back or settled
   pub count : total accepts calls answers ≡ end.owed + total backs calls answers + total settles calls answers
+  -- and they are what the book counts, as are those stepped back and those settled
+  pub accepted : (after pool calls w).book.accepted ≡ w.book.accepted + total accepts calls answers
+  pub back : (after pool calls w).book.back ≡ w.book.back + total backs calls answers
+  pub settled : (after pool calls w).book.settled ≡ w.book.settled + total settles calls answers
   -- the keep holds what owed edits took off, oldest first
   pub keeps : (as_keep.store end.keep).cells ≡ kept (after pool calls w).book.entries
   pub in_order : as_keep.ordered end.keep

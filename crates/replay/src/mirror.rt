@@ -1,6 +1,6 @@
 // A list on one sheet, and its exchange on another.
 ghost use Rattle.std.specs.Prelude.{◌≡◌, List, map, length, take, drop};
-ghost use Rattle.matrix.specs.Matrix.{turned};
+ghost use Rattle.matrix.specs.Matrix.{over, turned};
 ghost use Rattle.replay.specs.World.{started};
 ghost use Rattle.replay.specs.Laws.{Law, Mirrored, exchange, room};
 
@@ -35,6 +35,7 @@ pub fn replay_both<
     ensures law { let n = room calls.now exchanged.old answers.old other_answers.old in Law B.Board K.Keep result.0 memory.new (take n answers.new) lines.now (take n calls.now) (started B.Board K.Keep board keep memory.old) }
     ensures other { let n = room calls.now exchanged.old answers.old other_answers.old in Law C.Board L.Keep result.1 other_memory.new (take n other_answers.new) lines.now (map exchange (take n calls.now)) (started C.Board L.Keep other_board other_keep other_memory.old) }
     ensures mirrored { let n = room calls.now exchanged.old answers.old other_answers.old in C.Board.matrix other_board ≡ turned (B.Board.matrix board) → C.Board.limits other_board ≡ B.Board.limits board → (L.Keep.store other_keep).most ≡ (K.Keep.store keep).most → other_memory.old ≡ memory.old → Mirrored B.Board K.Keep C.Board L.Keep result.0 result.1 memory.new other_memory.new (take n answers.new) (take n other_answers.new) }
+    ensures exchanged { exchanged.new ≡ over (map exchange (take (length exchanged.old) calls.now)) exchanged.old }
     ensures rest { let n = room calls.now exchanged.old answers.old other_answers.old in drop n answers.new ≡ drop n answers.old }
     ensures other_rest { let n = room calls.now exchanged.old answers.old other_answers.old in drop n other_answers.new ≡ drop n other_answers.old }
 {

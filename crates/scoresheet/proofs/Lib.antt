@@ -1,0 +1,4 @@
+mod Whole
+mod Rows
+mod Kept
+mod Planned

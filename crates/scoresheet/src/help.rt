@@ -1,7 +1,6 @@
 // What `--help` prints.
-// kept: whole, as it is printed; what it shares with the help of `scorer` comes in six parts, between which stand lines of its own.
 
-pub const LINES: [&str; 29] = [
+pub const LINES: [&str; 34] = [
     "Usage: scoresheet [FILE]",
     "",
     "Reads a scorer's list from FILE, or from standard input, and prints the answer to each of its lines.",
@@ -19,16 +18,21 @@ pub const LINES: [&str; 29] = [
     "  remove-col I [ROOM]    column I goes",
     "  transpose              rows become columns",
     "  flip-rows, flip-cols   the last line comes first",
+    "  step-back [ROOM]       undoes the newest edit that is owed",
+    "  publish                settles all owed edits",
+    "  reopen                 opens a published sheet",
     "  size                   how many rows and columns",
     "  get R C                one cell",
+    "  owed, kept, settled    edits that may be stepped back, cells kept for them, edits settled",
     "  show                   the size and every row",
+    "  tally                  edits accepted, owed, stepped back and settled",
     "",
     "A cell of passages is -, thousandths of a second, DNS, DNF, DSQ or OFF.",
     "A cell of penalties is a signed count of thousandths.",
     "",
-    "Answers: ok; ok line CELL ..; refused NUMBER NAME; size R C; cell CELL; absent; row CELL ..;",
+    "Answers: ok; ok line CELL ..; ok settled N; refused NUMBER NAME; size R C; cell CELL; absent; row CELL ..;",
+    "owed N; kept N; settled N; tally ACCEPTED OWED STEPPED-BACK SETTLED;",
     "error LINE TEXT for a line that is no call, or one that its sheet does not have.",
     "",
-    "The calls step-back, publish, reopen, owed, kept, settled and tally are not here yet: each answers error.",
     "Status 1 if an error was printed, else 0.",
 ];

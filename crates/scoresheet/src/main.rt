@@ -3,9 +3,12 @@
 
 use desk::program::run;
 
+mod answers;
+mod grounds;
 mod help;
+mod script;
 mod sheets;
 
 fn main(rt: HostRuntime) -> anyhow::Result<()> {
-    run::<sheets::Plain>(&rt, "scoresheet", &help::LINES)
+    run::<sheets::Kept>(&rt, "scoresheet", &help::LINES)
 }

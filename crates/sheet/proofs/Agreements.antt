@@ -11,7 +11,7 @@ use Rattle.matrix.specs.Rules.{Within}
 use Rattle.std.proofs.lemmas.List.{append-nil}
 use Rattle.keeps.specs.Kept.{Store, holding}
 use Rattle.sheet.specs.declared.edit.Edit.{Edit}
-use Rattle.sheet.specs.Book.{Book, Entry, owed_limit, edits, full, entered, plain_said}
+use Rattle.sheet.specs.Book.{Book, Entry, owed_limit, edits, full, entered, plain_said, settle}
 use Rattle.sheet.specs.Stands.{Agrees, Undoable, undone}
 
 pub length_edits : {T : Type 0} (es : List (Entry T)) → length (edits es) ≡ length es
@@ -72,3 +72,19 @@ plain_done {k = k} {b = b} h x n p em el ej can back = plain_accepted h (entered
 -- what the board owes, of the book's matrix
 pub book_within : {T : Type 0} {ko : Type 0} {m : Matrix T} {l : Limits} {k : Store T} {js : List Edit} {b : Book T} → Agrees ko m l k js b → Within l m → Within b.limits b.matrix
 book_within {T} {m = m} {l = l} {b = b} h w = subst (λ (z : Limits). Within z b.matrix) h.limits (subst (λ (n : Matrix T). Within l n) h.matrix w)
+
+-- the owed edits are settled, and the keep is emptied
+pub settled : {T : Type 0} {ko ko' : Type 0} {m : Matrix T} {l : Limits} {k k' : Store T} {js : List Edit} {b : Book T} {n : ℕ} → Agrees ko m l k js b → ko' → k'.cells ≡ [] → k'.most ≡ k.most → n ≡ length js → Agrees ko' m l k' [] (settle b) × (n ≡ length b.entries)
+settled {b = b} h o empty most count = (
+  record {
+    ordered = o;
+    matrix = h.matrix;
+    limits = h.limits;
+    cells = empty;
+    most = most ∙ h.most;
+    notes = refl;
+    past = tt;
+    count = omega (arith, h.count);
+  },
+  count ∙ ap length h.notes ∙ length_edits b.entries,
+)

@@ -11,7 +11,6 @@ use Rattle.keeps.proofs.Newest.{newest_last, older_last}
 use Rattle.std.proofs.lemmas.Option.{none-some, same_Some}
 use Rattle.matrix.specs.Rules.{put_answer}
 use Rattle.matrix.proofs.Goes.{goes_out}
-use Rattle.std.proofs.lemmas.Bool.Decides.{nat_tests}
 use Rattle.matrix.specs.declared.axis.Axis.{Axis}
 use Rattle.sheet.specs.declared.edit.Edit.{Edit}
 use Rattle.sheet.specs.declared.edit.Edit.TheVariants.{Put, Insert, Remove}

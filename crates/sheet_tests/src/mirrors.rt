@@ -93,10 +93,11 @@ fn both<
     assert_eq!(rt; one.board.get(0, 1), Some(70));
 }
 
+// Both boards have S = 256 and N = 65,536, and both keeps M = 9.
 #[test]
 fn grid_and_seats(rt: HostRuntime) {
-    let mut cells = [0u8; 36];
-    let mut seats = [0u8; 36];
+    let mut cells = [0u8; 65536];
+    let mut seats = [0u8; 65536];
     let mut kept = [0u8; 9];
     let mut four = [0u8; 4];
     let mut five = [0u8; 5];
@@ -104,7 +105,7 @@ fn grid_and_seats(rt: HostRuntime) {
         &rt,
         Grid::from_vec_with_order(&mut cells, 0, 0, Order::ColumnMajor),
         StackKeep::new(&mut kept),
-        SeatBoard::new(&mut seats, 6),
+        SeatBoard::new(&mut seats, 256),
         StackKeep::new(&mut four),
         StackKeep::new(&mut five),
     );

@@ -131,6 +131,110 @@ impl SheetCase for Side {
     }
 }
 
+// The sheet has these rows, and owes and keeps so many edits and cells.
+fn stands<B: Board<Cell = Penalty> + Drop, K: Keep<Cell = Penalty> + Drop>(
+    rt: &impl Abort,
+    sheet: &OpenSheet<B, K>,
+    rows: &[&[i32]],
+    owed: usize,
+    kept: usize,
+) {
+    for (r, row) in rows.iter().enumerate() {
+        for (c, x) in row.iter().enumerate() {
+            assert_eq!(rt; sheet.get(r, c), Some(Penalty(*x)));
+        }
+        assert_eq!(rt; sheet.size(), (rows.len(), row.len()));
+    }
+    assert_eq!(rt; sheet.owed(), owed);
+    assert_eq!(rt; sheet.kept(), kept);
+}
+
+const FIRST: [Penalty; 3] = [Penalty(1), Penalty(2), Penalty(3)];
+
+const SECOND: [Penalty; 3] = [Penalty(4), Penalty(5), Penalty(6)];
+
+const BLANK: [Penalty; 4] = [Penalty(-1); 4];
+
+// A keep of four cells: a removal that finds too little room is refused, and so is a put that finds none, and both leave all as
+// it was. A step back makes room again.
+#[derive(Clone, Copy)]
+struct KeepFull;
+
+impl SheetCase for KeepFull {
+    fn on_sheet<B: Board<Cell = Penalty> + Drop, K: Keep<Cell = Penalty> + Drop>(
+        &self,
+        rt: &impl Abort,
+        mut board: B,
+        keep: K,
+    ) {
+        let mut memory = BLANK;
+        assert_eq!(rt; board.insert(Axis::Row, 0, &FIRST), Ok(()));
+        assert_eq!(rt; board.insert(Axis::Row, 1, &SECOND), Ok(()));
+        let mut sheet = OpenSheet::new(board, keep);
+        assert_eq!(rt; sheet.put(0, 0, Penalty(7)), Ok(()));
+        assert_eq!(rt; sheet.put(0, 1, Penalty(8)), Ok(()));
+        assert_eq!(rt; sheet.remove(Axis::Row, 1, &mut memory), Err(Refusal::Keep));
+        assert_eq!(rt; memory, BLANK);
+        stands(rt, &sheet, &[&[7, 8, 3], &[4, 5, 6]], 2, 2);
+        assert_eq!(rt; sheet.remove(Axis::Col, 0, &mut memory), Ok(()));
+        assert_eq!(rt; memory, [Penalty(7), Penalty(4), Penalty(-1), Penalty(-1)]);
+        memory = BLANK;
+        assert_eq!(rt; sheet.put(1, 1, Penalty(9)), Err(Refusal::Keep));
+        assert_eq!(rt; sheet.put(1, 2, Penalty(9)), Err(Refusal::Place));
+        assert_eq!(rt; sheet.remove(Axis::Row, 0, &mut memory), Err(Refusal::Keep));
+        assert_eq!(rt; memory, BLANK);
+        stands(rt, &sheet, &[&[8, 3], &[5, 6]], 3, 4);
+        assert_eq!(rt; sheet.step_back(&mut memory), Ok(()));
+        assert_eq!(rt; sheet.put(1, 1, Penalty(9)), Ok(()));
+        stands(rt, &sheet, &[&[7, 8, 3], &[4, 9, 6]], 3, 3);
+    }
+}
+
+// Memory that is shorter than the line: a removal and a step back are refused, and leave all as it was.
+#[derive(Clone, Copy)]
+struct Short;
+
+impl SheetCase for Short {
+    fn on_sheet<B: Board<Cell = Penalty> + Drop, K: Keep<Cell = Penalty> + Drop>(
+        &self,
+        rt: &impl Abort,
+        mut board: B,
+        keep: K,
+    ) {
+        let mut memory = BLANK;
+        assert_eq!(rt; board.insert(Axis::Row, 0, &FIRST), Ok(()));
+        assert_eq!(rt; board.insert(Axis::Row, 1, &SECOND), Ok(()));
+        let mut sheet = OpenSheet::new(board, keep);
+        assert_eq!(rt;
+            sheet.remove(Axis::Row, 0, &mut memory[..2]),
+            Err(Refusal::Short)
+        );
+        assert_eq!(rt;
+            sheet.remove(Axis::Col, 0, &mut memory[..1]),
+            Err(Refusal::Short)
+        );
+        assert_eq!(rt; memory, BLANK);
+        stands(rt, &sheet, &[&[1, 2, 3], &[4, 5, 6]], 0, 0);
+        assert_eq!(rt;
+            sheet.insert(Axis::Col, 1, &[Penalty(10), Penalty(11)]),
+            Ok(())
+        );
+        assert_eq!(rt; sheet.step_back(&mut memory[..1]), Err(Refusal::Short));
+        assert_eq!(rt; memory, BLANK);
+        stands(rt, &sheet, &[&[1, 10, 2, 3], &[4, 11, 5, 6]], 1, 0);
+        assert_eq!(rt; sheet.remove(Axis::Row, 1, &mut memory), Ok(()));
+        memory = BLANK;
+        assert_eq!(rt; sheet.step_back(&mut memory[..3]), Err(Refusal::Short));
+        assert_eq!(rt; memory, BLANK);
+        stands(rt, &sheet, &[&[1, 10, 2, 3]], 2, 4);
+        assert_eq!(rt; sheet.step_back(&mut memory), Ok(()));
+        assert_eq!(rt; memory, [Penalty(4), Penalty(11), Penalty(5), Penalty(6)]);
+        assert_eq!(rt; sheet.step_back(&mut memory[..2]), Ok(()));
+        assert_eq!(rt; memory, [Penalty(10), Penalty(11), Penalty(5), Penalty(6)]);
+        stands(rt, &sheet, &[&[1, 2, 3], &[4, 5, 6]], 0, 0);
+    }
+}
+
 // The case on a stack of four cells.
 #[derive(Clone, Copy)]
 struct Stacked<C>(C);
@@ -194,4 +298,14 @@ fn journal_of_256_edits(rt: HostRuntime) {
 #[test]
 fn side_of_256_rows(rt: HostRuntime) {
     everywhere(&rt, Side);
+}
+
+#[test]
+fn keep_full(rt: HostRuntime) {
+    everywhere(&rt, KeepFull);
+}
+
+#[test]
+fn memory_too_short(rt: HostRuntime) {
+    everywhere(&rt, Short);
 }

@@ -3,6 +3,8 @@ ghost use Rattle.std.specs.Prelude.{◌≡◌, ℕ, ◌≤◌, min, [], length};
 ghost use Rattle.matrix.specs.Rules.{cell_limit};
 ghost use Rattle.std.proofs.Math.Nat.{min-le_right};
 ghost use Rattle.matrix.proofs.Stores.{taken_within};
+ghost use Rattle.cells.specs.Refusals.{answered};
+ghost use Rattle.keeps.specs.Kept.{holding, push_answer, pushed, newest, taken};
 ghost use Rattle.keeps.specs.Stacks.{used, stacked};
 
 use crate::keep::Keep;
@@ -53,7 +55,12 @@ impl<'a, T: Copy> Keep for StackKeep<'a, T> {
         self.used_now()
     }
 
-    fn push(&mut self, x: T) -> Result<(), Refusal> {
+    fn push(&mut self, x: T) -> Result<(), Refusal>
+        ensures answer { result ≡ push_answer (stacked self.old) }
+        ensures effect { stacked self.new ≡ answered result (pushed x (stacked self.old)) (stacked self.old) }
+        ensures limit { (stacked self.new).most ≡ (stacked self.old).most }
+        ensures memory { self.new.cells.ghost_name ≡ self.old.cells.ghost_name }
+    {
         let n = self.used_now();
         if self.limit() <= n {
             return Err(Refusal::Keep);
@@ -63,13 +70,21 @@ impl<'a, T: Copy> Keep for StackKeep<'a, T> {
         Ok(())
     }
 
-    fn take(&mut self) -> Option<T> {
+    fn take(&mut self) -> Option<T>
+        ensures answer { result ≡ newest (stacked self.old).cells }
+        ensures effect { stacked self.new ≡ taken (stacked self.old) }
+        ensures limit { (stacked self.new).most ≡ (stacked self.old).most }
+        ensures memory { self.new.cells.ghost_name ≡ self.old.cells.ghost_name }
+    {
         let n = self.used_now().checked_sub(1)?;
         self.used = n;
         Some(self.cells[n])
     }
 
-    fn clear(&mut self) {
+    fn clear(&mut self)
+        ensures effect { stacked self.new ≡ holding [] (stacked self.old) }
+        ensures memory { self.new.cells.ghost_name ≡ self.old.cells.ghost_name }
+    {
         self.used = 0;
     }
 }

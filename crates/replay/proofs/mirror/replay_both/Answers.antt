@@ -25,6 +25,7 @@ returns g c =
       mirrored = mirrored g.B.Board g.K.Keep g.C.Board g.L.Keep
           c.replay-one.result c.replay-two.result c.replay-one.new.memory c.replay-two.new.memory _ _ a.lines.now (take n calls)
           (g.B.Board.matrix a.board) (g.C.Board.matrix a.other_board) (g.B.Board.limits a.board) (g.C.Board.limits a.other_board) (g.K.Keep.store a.keep).most (g.L.Keep.store a.other_keep).most a.memory.now a.other_memory.now one two;
+      exchanged = c.exchange_all.ensures.effect;
       rest = drop_at c.replay-one.new.answers _ n came ∙ ap (λ k. drop k a.answers.now) is;
       other_rest = drop_at c.replay-two.new.answers _ n came_too ∙ ap (λ k. drop k a.other_answers.now) is;
     }

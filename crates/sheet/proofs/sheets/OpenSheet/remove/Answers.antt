@@ -1,3 +1,4 @@
+use Rattle.std.proofs.lemmas.List.{take_all}
 use Rattle.std.proofs.Common.{rules, ◌≡◌, ◌-◌, ◌≤◌, ◌++◌, length, take, drop, sym, ap, ◌∙◌, arith, take_at}
 use Rattle.cells.specs.Refusals.{answered}
 use Rattle.matrix.specs.Matrix.{over}
@@ -56,9 +57,9 @@ returns g c =
     record {
       follows = λ b h.
           let room : (along ax m).cols ≤ k.most - length k.cells = omega (arith, cols, c.limit.ensures.answer, c.count.ensures.answer h.ordered) in
-          let fits = (g.met.K.Keep.within was.keep h.ordered).cells in
-          let pushed = c.push_line.ensures.effect h.ordered (omega (arith, ap length front, size, fits)) in
-          remove_accepted h w ax i memory ok n p room pushed.0 (out.effect ∙ ap (λ q. answered q (removed ax i m) m) yes) out.limits (pushed.1 ∙ ap (λ xs. holding (k.cells ++ xs) k) front) cols (c.note.ensures.effect p);
+          let all = take_all (k.most - length k.cells) (take n c.remove.new.memory) (omega (arith, ap length front, size)) in
+          remove_accepted h w ax i memory ok n p room (c.push_line.ensures.ordered h.ordered) (out.effect ∙ ap (λ q. answered q (removed ax i m) m) yes) out.limits
+          (c.push_line.ensures.effect h.ordered ∙ ap (λ xs. holding (k.cells ++ xs) k) (all ∙ front)) cols (c.note.ensures.effect p);
       leaves = λ b h.
           let room : (along ax m).cols ≤ k.most - length k.cells = omega (arith, cols, c.limit.ensures.answer, c.count.ensures.answer h.ordered) in
           accepted_memory h w ax i memory ok p room mem;

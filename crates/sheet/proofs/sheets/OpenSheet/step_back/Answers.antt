@@ -1,7 +1,8 @@
-use Rattle.std.proofs.Common.{◌≡◌, ◌≤◌, ◌++◌, length, drop, Some, Err, rules, sym, refl, ap, ◌∙◌, arith, length-take-le, take_at}
+use Rattle.std.proofs.Common.{◌≡◌, ◌≤◌, ◌++◌, length, take, drop, Some, Err, rules, sym, refl, ap, ◌∙◌, arith, length-take-le, take_at}
 use Rattle.cells.specs.Refusals.{answered}
 use Rattle.matrix.specs.Matrix.{turned}
 use Rattle.keeps.specs.Kept.{older}
+use Rattle.keeps.proofs.Pulls.{pulled_back}
 use Rattle.cells.specs.declared.refusal.Refusal.TheVariants.{NothingOwed}
 use Rattle.sheet.specs.declared.edit.Edit.{Edit}
 use Rattle.sheet.specs.declared.edit.Edit.TheVariants.{Put, Insert, Remove, Transpose, Flip}
@@ -83,12 +84,14 @@ returns g c =
           let nw = newest e w.in-Remove.is in
           let can = can_undo h e nw memory in
           let off = w.pull_line.new.memory in
-          let pulled = w.pull_line.ensures.effect h.ordered (kept nw.rest) nw.entry.taken (keep_ends h e nw memory) (can.1 ∙ sym (length-take-le n memory long)) in
-          let size : length off ≡ n = ap length pulled.2 ∙ can.1 in
+          let back = pulled_back (keep.store was.keep) (kept nw.rest) nw.entry.taken (take n memory) (keep_ends h e nw memory) (can.1 ∙ sym (length-take-le n memory long)) in
+          let pulled = w.pull_line.ensures in
+          let off_is = pulled.memory h.ordered ∙ back.1 in
+          let size : length off ≡ n = ap length off_is ∙ can.1 in
           let part = take_at off (drop n memory) n size in
           let into = w.insert.ensures in
           back_by board keep memory b w.self-is w.memory-is
-          (undo_remove h memory ax i n nw w.insert.result off long pulled.0 pulled.2 pulled.1
+          (undo_remove h memory ax i n nw w.insert.result off long (pulled.ordered h.ordered) off_is (pulled.effect h.ordered ∙ back.0)
           (into.answer ∙ ap (λ z. insert_along l ax i z m) part) (into.effect ∙ ap (λ z. answered w.insert.result (inserted ax i z m) m) part) (ap (λ j. off ++ drop j memory) (sym size)) into.limits struck)
       | in-Transpose w ↦
           let nw = newest Transpose w.in-Transpose.is in

@@ -15,8 +15,8 @@ returns g c =
     let d = c.index-self-n.result in
     let split = ap (λ j. take j xs) (sym at ∙ one) ∙ take_more xs n d (omega arith) in
     record {
-      answer = λ _. sym (ap newest split ∙ newest_last (take n xs) (get_or xs n d));
-      effect = λ _ i. record { cells = (stack_left xs n (omega arith) ∙ sym (older_last (take n xs) (get_or xs n d)) ∙ ap older (sym split)) i; most = min (length xs) cell_limit };
-      ordered = λ _. tt;
+      answer = sym (ap newest split ∙ newest_last (take n xs) (get_or xs n d));
+      effect = λ i. record { cells = (stack_left xs n (omega arith) ∙ sym (older_last (take n xs) (get_or xs n d)) ∙ ap older (sym split)) i; most = min (length xs) cell_limit };
       limit = refl;
+      memory = refl;
     }

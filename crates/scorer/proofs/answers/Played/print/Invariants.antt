@@ -1,8 +1,0 @@
-use Rattle.std.proofs.Common.{take}
-use Rattle.desk.specs.Outcomes.{Clean}
-use Rattle.scorer.specs.Plans.{AllAsked}
-use Rattle.scorer.proofs.answers.Played.print.Given as goal
-
--- no line so far is wrong
-abbrev pub invariant-loop-item : goal.invariant-loop-item
-invariant-loop-item g l = Clean l.out → Clean l.initial.out × AllAsked (take l.item-index l.item-items)

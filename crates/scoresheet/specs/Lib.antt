@@ -1,0 +1,4 @@
+pub mod Plans
+pub mod Asks
+pub mod Rows
+pub mod Plays
