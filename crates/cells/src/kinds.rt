@@ -1,5 +1,5 @@
 // What a cell is: a plain value that is copied, has a blank and can be asked whether it is the same as another.
-ghost use Rattle.std.specs.Prelude.{◌≡◌, T, pos};
+ghost use Rattle.std.specs.Prelude.{◌≡◌, T, pos, true};
 ghost use Rattle.cells.specs.declared.kinds.Passage.{Passage};
 
 // A kind of cell. `nothing` is its blank.
@@ -84,5 +84,17 @@ impl Kind for u8 {
     // kept: the `==` of bytes, by the name that every kind of cell has it.
     fn same(&self, other: &u8) -> bool {
         *self == *other
+    }
+}
+
+// Yes exactly when both have the same cell, or neither has one.
+pub fn same_cells<K: Kind>(a: Option<K>, b: Option<K>) -> bool
+    ensures only { result ≡ true → a ≡ b }
+    ensures all { a ≡ b → result ≡ true }
+{
+    match (a, b) {
+        (Some(x), Some(y)) => x.same(&y),
+        (None, None) => true,
+        _ => false,
     }
 }

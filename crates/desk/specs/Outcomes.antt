@@ -1,9 +1,11 @@
 -- What answers leave of the outcome, which is an error where one was answered.
-use Rattle.std.specs.Prelude.{◌≡◌, List, [], ◌∷◌, Ok, IsOk, All, ⊤}
+use Rattle.std.specs.Prelude.{◌≡◌, ℕ, List, [], ◌∷◌, Ok, IsOk, All, ⊤, map}
+use Rattle.std.specs.Str.Lines.{lines}
 use Rattle.listing.specs.declared.call.Fresh.{Fresh}
 use Rattle.listing.specs.declared.call.Call.{Call}
 use Rattle.desk.specs.declared.lines.Line.{Line}
 use Rattle.desk.specs.declared.output.Output.{Output}
+use Rattle.desk.specs.Lists.{words, AreLines}
 
 -- no line is wrong, whatever the sheet
 abbrev pub Sound : List Line → Type 0
@@ -21,3 +23,7 @@ Answered lines old new = Clean new → Clean old × Sound lines
 abbrev pub Begins : List Line → Type 0
 Begins [] = ⊤
 Begins (line ∷ lines) = (fresh : Fresh) × (line.call ≡ Ok (Call.New fresh))
+
+-- a text whose lines are calls, or say nothing, and of which the first call makes a sheet
+abbrev pub Answerable : List ℕ → Type 0
+Answerable text = (ls : List Line) × AreLines 1 (map words (lines text)) ls × Sound ls × Begins ls

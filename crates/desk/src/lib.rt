@@ -4,7 +4,6 @@
 
 pub mod lines;
 pub mod output;
-pub mod program;
 pub mod sheets;
 pub mod spelt;
 #[cfg(test)]

@@ -1,9 +1,9 @@
 // The sheets of a list, one after another.
 // kept: `lines` on each call, since it speaks of an output before and after it, so that no invariant says it.
 ghost use Rattle.std.specs.Prelude.{◌≡◌, [], IfOk, IsOk, flat_map};
-ghost use Rattle.desk.specs.Outcomes.{Answered, Begins, Clean, Sound};
+ghost use Rattle.desk.specs.Outcomes.{Answerable, Answered, Begins, Clean, Sound};
 
-use crate::lines::Line;
+use crate::lines::{self, Line};
 use crate::output::Output;
 use cells::kinds::{Passage, Penalty};
 use layouts::over::ground_check;
@@ -25,8 +25,18 @@ pub trait Sheets {
         ensures lines { IfOk result (λ o. Answered lines.now out.entry o) };
 }
 
+// Answers a list: well only where each of its lines is a call, or says nothing, and the first call makes a sheet.
+pub fn answer_text<S: Sheets>(rt: &HostRuntime, text: &str) -> anyhow::Result<()>
+    ensures sound { IsOk result → Answerable text.now }
+{
+    let heap = rt.alloc();
+    let words = lines::split(heap, text)?;
+    let lines = lines::read(heap, words.as_slice())?;
+    answer::<S>(rt, lines.as_slice())
+}
+
 // Answers all lines. A sheet answers its own, from the line that makes it up to the one that makes the next.
-pub fn answer<S: Sheets>(rt: &HostRuntime, lines: &[Line<'_>]) -> anyhow::Result<()>
+fn answer<S: Sheets>(rt: &HostRuntime, lines: &[Line<'_>]) -> anyhow::Result<()>
     ensures sound { IsOk result → Sound lines.now }
     ensures sheet { IsOk result → Begins lines.now }
 {

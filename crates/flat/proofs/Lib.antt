@@ -2,6 +2,7 @@ pub mod Segments
 pub mod Stretches
 pub mod Parts
 pub mod Inserts
+pub mod Spaces
 pub mod Deletes
 pub mod Flips
 pub mod Orders

@@ -30,12 +30,13 @@ module _ {X F : Type 0} (R : F → X → F → Type 0) (f : F) (x : X) (each : (
   filled_all (y ∷ ys) last r zero h = ap Some (each y r.0 r.1).0
   filled_all (y ∷ ys) last r (suc k) h = filled_all ys last (subst (λ g. FoldsTo R g ys last) (each y r.0 r.1).1 r.2) k (omega arith)
 
-  pub filled_front : (xs ys : List X) (n : ℕ) → n ≤ length xs → length ys ≡ n → (last : F) × FoldsTo R f ys last → Filled xs (ys ++ drop n xs) n x
-  filled_front xs ys n h l r = record {
+  pub filled_part : (xs ys : List X) (p n w : ℕ) → w ≡ n → p + n ≤ length xs → length ys ≡ n → (last : F) × FoldsTo R f ys last → Filled xs (put_mid p w xs ys) p n x
+  filled_part xs ys p n w e h l r = record {
     len = all;
-    below = λ k b. nth_same (ys ++ drop n xs) ys k k (omega (arith, all)) (omega arith) (λ d. search (rules, places)) ∙ filled_all ys r.0 r.1 k (omega arith);
-    above = λ k b. nth_kept xs (ys ++ drop n xs) k all (λ d. search (rules, places));
+    filled = λ k b. nth_same (put_mid p w xs ys) ys (p + k) k (omega (arith, all)) (omega arith) (λ d. search (rules, places)) ∙ filled_all ys r.0 r.1 k (omega arith);
+    below = λ k b. nth_kept xs (put_mid p w xs ys) k all (λ d. search (rules, places));
+    above = λ k b. nth_kept xs (put_mid p w xs ys) k all (λ d. search (rules, places));
   }
     where
-      all : length (ys ++ drop n xs) ≡ length xs
+      all : length (put_mid p w xs ys) ≡ length xs
       all = search (rules, places)

@@ -2,19 +2,21 @@
 // kept: memory and shape stand apart, since the struct of both is `Grid`, whose calls come down to these; so do a row and a
 // column, as a grid's callers have them.
 // kept: `kept` and `order` stand on each call, since they speak of what it leaves and not of one value.
-ghost use Rattle.std.specs.Prelude.{◌≡◌, ℕ, ◌*◌, ◌≤◌, ◌<◌, length, slice_set, Some, IfSome};
+ghost use Rattle.std.specs.Prelude.{◌≡◌, ℕ, ◌*◌, ◌≤◌, ◌<◌, length, take, drop, slice_set, Some, IfSome};
 ghost use Rattle.std.specs.List.{slice_get};
 ghost use Rattle.cells.specs.Refusals.{answered, Kept, verdict, stands};
-ghost use Rattle.matrix.specs.Matrix.{Matrix, put_cell, filled, inside, rotate_half, over};
+ghost use Rattle.matrix.specs.Matrix.{Matrix, put_cell, swap_cells, filled, more_rows, inside, rotate_half, over};
 ghost use Rattle.matrix.specs.Shapes.{Form, form, fitted, held, laid, place};
-ghost use Rattle.matrix.specs.Rules.{grid_limits, put_answer};
-ghost use Rattle.matrix.specs.Axes.{along, along_form, inserted, removed, line_of, flipped, insert_along, remove_along, delete_along};
+ghost use Rattle.matrix.specs.Rules.{grid_limits, put_answer, swap_answer, more_rows_answer};
+ghost use Rattle.matrix.specs.Axes.{along, along_form, inserted, expanded, prepended, removed, line_of, flipped, insert_along, more_along, remove_along, delete_along};
 
-use crate::lines::{copy_line, delete_line, flip_lines, insert_line, place_of, turn_half};
-use crate::moves::fill_first;
+use crate::lines::{
+    copy_line, delete_line, flip_lines, insert_line, place_of, space_lines, turn_half,
+};
+use crate::moves::fill_part;
 use cells::refusal::Refusal;
 use matrix::axis::Axis;
-use matrix::checks::{insert_check, remove_check};
+use matrix::checks::{insert_check, more_check, remove_check};
 use matrix::limits::{CELLS, Limits, SIDE};
 use matrix::shape::Shape;
 
@@ -25,6 +27,18 @@ pub fn limits_over(n: usize) -> Limits
     Limits {
         side: SIDE,
         most: n.min(CELLS),
+    }
+}
+
+// The memory's first 65,536 cells, or all where there are no more.
+pub fn first_cells<T>(cells: &mut [T]) -> &mut [T]
+    ensures cells { result.now ≡ take 65536 cells.old }
+    ensures memory { length cells.old ≤ 65536 → result.ghost_name ≡ cells.entry.ghost_name }
+{
+    if CELLS < cells.len() {
+        &mut cells[0..CELLS]
+    } else {
+        cells
     }
 }
 
@@ -84,12 +98,30 @@ pub fn put<T: Copy>(s: &mut [T], shape: Shape, r: usize, c: usize, x: T) -> Resu
     Ok(())
 }
 
-// One cell everywhere.
+// The cells at two places change places.
+pub fn swap<T: Copy>(
+    s: &mut [T],
+    shape: Shape,
+    a: (usize, usize),
+    b: (usize, usize),
+) -> Result<(), Refusal>
+    ensures answer { result ≡ swap_answer a b (held (form shape) s.old) }
+    ensures effect { held (form shape) s.new ≡ answered result (swap_cells a b (held (form shape) s.old)) (held (form shape) s.old) }
+    ensures kept { Kept result s.old s.new }
+{
+    let j = place_in(s.len(), shape, a.0, a.1).ok_or(Refusal::Place)?;
+    let k = place_in(s.len(), shape, b.0, b.1).ok_or(Refusal::Place)?;
+    s.swap(j, k);
+    Ok(())
+}
+
+// One cell everywhere; what lies past the matrix stays.
 pub fn fill<T: Copy>(s: &mut [T], shape: Shape, x: T)
     ensures effect { held (form shape) s.new ≡ filled (held (form shape) s.old).rows (held (form shape) s.old).cols x }
+    ensures past { let m = held (form shape) s.old in drop (m.rows * m.cols) s.new ≡ drop (m.rows * m.cols) s.old }
 {
     let shape = shape.fitted(s.len());
-    fill_first(s, shape.rows * shape.cols, x);
+    fill_part(s, 0, shape.rows * shape.cols, x);
 }
 
 // The line becomes line i along the axis.
@@ -108,6 +140,63 @@ pub fn insert<T: Copy>(
     let shape = rows_along(s, shape, axis);
     insert_check(limits_over(s.len()), i, line.len(), shape.rows, shape.cols)?;
     Ok(insert_line(s, shape, i, line).along(axis))
+}
+
+// n rows of x put in at i; nothing for none of them, and in an empty matrix.
+fn more_lines<T: Copy>(
+    s: &mut [T],
+    shape: Shape,
+    i: usize,
+    n: usize,
+    x: T,
+) -> Result<Shape, Refusal>
+    requires at { i ≤ shape.rows }
+    requires room { shape.rows * shape.cols ≤ length s.old }
+    ensures answer { verdict result ≡ more_rows_answer (grid_limits (length s.old)) n (laid (form shape) s.old) }
+    ensures effect { laid (form (stands result shape)) s.new ≡ answered result (more_rows i n x (laid (form shape) s.old)) (laid (form shape) s.old) }
+    ensures order { (stands result shape).order ≡ shape.order }
+    ensures fits { (stands result shape).rows * (stands result shape).cols ≤ length s.new }
+    ensures kept { Kept result s.old s.new }
+{
+    more_check(limits_over(s.len()), n, shape.rows, shape.cols)?;
+    if n == 0 || shape.cols == 0 {
+        return Ok(shape);
+    }
+    Ok(space_lines(s, shape, i, n, x))
+}
+
+// n lines of x after the rest along the axis.
+pub fn expand<T: Copy>(
+    s: &mut [T],
+    shape: Shape,
+    axis: Axis,
+    n: usize,
+    x: T,
+) -> Result<Shape, Refusal>
+    ensures answer { verdict result ≡ more_along (grid_limits (length s.old)) axis n (held (form shape) s.old) }
+    ensures effect { held (form (stands result shape)) s.new ≡ answered result (expanded axis n x (held (form shape) s.old)) (held (form shape) s.old) }
+    ensures order { (stands result shape).order ≡ shape.order }
+    ensures kept { Kept result s.old s.new }
+{
+    let shape = rows_along(s, shape, axis);
+    Ok(more_lines(s, shape, shape.rows, n, x)?.along(axis))
+}
+
+// n lines of x before the rest along the axis.
+pub fn prepend<T: Copy>(
+    s: &mut [T],
+    shape: Shape,
+    axis: Axis,
+    n: usize,
+    x: T,
+) -> Result<Shape, Refusal>
+    ensures answer { verdict result ≡ more_along (grid_limits (length s.old)) axis n (held (form shape) s.old) }
+    ensures effect { held (form (stands result shape)) s.new ≡ answered result (prepended axis n x (held (form shape) s.old)) (held (form shape) s.old) }
+    ensures order { (stands result shape).order ≡ shape.order }
+    ensures kept { Kept result s.old s.new }
+{
+    let shape = rows_along(s, shape, axis);
+    Ok(more_lines(s, shape, 0, n, x)?.along(axis))
 }
 
 // Line i along the axis goes, into the first cells of the memory.

@@ -1,10 +1,10 @@
 // A row call on flat cells, in either order: the cells of a row lie side by side in a row-major matrix, and one in each
 // column of a column-major one. Each call moves a cell at most once.
 ghost use Rattle.std.specs.Prelude.{◌≡◌, ℕ, ◌+◌, ◌-◌, ◌*◌, ◌<◌, ◌≤◌, length};
-ghost use Rattle.matrix.specs.Matrix.{Matrix, insert_row, remove_row, flip_rows, rotate_half, row, over};
-ghost use Rattle.matrix.specs.Shapes.{form, laid, place, inserted_form, deleted_form};
+ghost use Rattle.matrix.specs.Matrix.{Matrix, left_across, insert_row, insert_col, space_rows, remove_row, remove_col, flip_rows, rotate_half, row, over};
+ghost use Rattle.matrix.specs.Shapes.{form, laid, rowwise, place, inserted_form, spaced_form, deleted_form};
 
-use crate::moves::{copy, exchange, reverse, slide, spread, tighten};
+use crate::moves::{copy, exchange, part, reverse, shift, slide, write};
 use matrix::checks::left_across;
 use matrix::shape::{Order, Shape};
 
@@ -22,7 +22,58 @@ pub(crate) fn place_of(shape: Shape, r: usize, c: usize) -> usize
     }
 }
 
-// The line becomes row i: what lies after it moves up, or each column, the last first, moves up and takes its new cell.
+// How many cells stand from place i of line c on to the next line's place i, or to the end: n, but for the last line.
+// kept: a `min` with how many cells are left would need a proof about products
+fn between(c: usize, lines: usize, n: usize, i: usize) -> usize
+    requires line { c < lines }
+    requires at { i ≤ n }
+    requires fits { lines ≤ 256 }
+    ensures whole { c + 1 < lines → result ≡ n }
+    ensures last { c + 1 ≡ lines → result ≡ n - i }
+{
+    if c + 1 < lines { n } else { n - i }
+}
+
+// Each line of n cells takes one more at i, a cell of `line`: the cells between two new ones move up at once, the last first.
+fn widen<T: Copy>(s: &mut [T], n: usize, i: usize, line: &[T])
+    requires at { i ≤ n }
+    requires some { 0 < length line.now }
+    requires tall { n + 1 ≤ 256 }
+    requires wide { length line.now ≤ 256 }
+    requires room { length line.now * (n + 1) ≤ length s.old }
+    ensures effect { rowwise (length line.now) (n + 1) s.new ≡ insert_col i line.now (rowwise (length line.now) n s.old) }
+{
+    let lines = line.len();
+    // kept: by `line.iter().enumerate().rev()` the loop's invariant is on the items still to come, and no longer names the
+    // line; and no chunk of the slice holds both places of a stretch, which moves into where the next one stood
+    for c in (0..lines).rev() {
+        let from = c * n + i;
+        let at = c * (n + 1) + i;
+        let some = between(c, lines, n, i);
+        shift(s, from, at + 1, some);
+        write(s, at, line[c]);
+    }
+}
+
+// Each of the lines of n cells loses the one at i: the cells between two that go move down at once, the first first.
+fn narrow<T: Copy>(s: &mut [T], n: usize, lines: usize, i: usize)
+    requires at { i < n }
+    requires some { 0 < lines }
+    requires tall { n ≤ 256 }
+    requires wide { lines ≤ 256 }
+    requires room { lines * n ≤ length s.old }
+    ensures effect { rowwise (left_across n lines) (n - 1) s.new ≡ remove_col i (rowwise lines n s.old) }
+{
+    // kept: a stretch moves into where the one before it stood, so that no chunk of the slice holds both its places
+    for c in 0..lines {
+        let from = c * n + i + 1;
+        let to = c * (n - 1) + i;
+        let some = between(c, lines, n - 1, i);
+        shift(s, from, to, some);
+    }
+}
+
+// The line becomes row i: what lies after it moves up, or each column takes a cell.
 pub(crate) fn insert_line<T: Copy>(s: &mut [T], shape: Shape, i: usize, line: &[T]) -> Shape
     requires at { i ≤ shape.rows }
     requires some { 0 < length line.now }
@@ -43,16 +94,39 @@ pub(crate) fn insert_line<T: Copy>(s: &mut [T], shape: Shape, i: usize, line: &[
             slide(s, from, from + cols, rows * cols - from);
             copy(s, from, line);
         }
+        Order::ColumnMajor => widen(s, rows, i, line),
+    }
+    Shape {
+        rows: rows + 1,
+        cols,
+        order: shape.order,
+    }
+}
+
+// n rows of x come in at i: what lies after them moves up, or each column, the last first, moves up and is parted.
+pub(crate) fn space_lines<T: Copy>(s: &mut [T], shape: Shape, i: usize, n: usize, x: T) -> Shape
+    requires at { i ≤ shape.rows }
+    requires some { 0 < shape.cols }
+    requires tall { shape.rows + n ≤ 256 }
+    requires room { (shape.rows + n) * shape.cols ≤ length s.old }
+    ensures form { form result ≡ spaced_form n (form shape) }
+    ensures effect { laid (form result) s.new ≡ space_rows i n x (laid (form shape) s.old) }
+{
+    let rows = shape.rows;
+    let cols = shape.cols;
+    match shape.order {
+        Order::RowMajor => {
+            let from = i * cols;
+            part(s, from, from, rows * cols - from, 0, n * cols, x);
+        }
         Order::ColumnMajor => {
-            // kept: by `line.iter().enumerate().rev()` the loop's invariant is on the items still to come, and no longer names the
-            // column; and no chunk of the slice holds both places of a column, which moves into where the next one stood
             for c in (0..cols).rev() {
-                spread(s, c * rows, c * (rows + 1), rows, i, line[c]);
+                part(s, c * rows, c * (rows + n), rows, i, n, x);
             }
         }
     }
     Shape {
-        rows: rows + 1,
+        rows: rows + n,
         cols,
         order: shape.order,
     }
@@ -81,7 +155,7 @@ pub(crate) fn copy_line<T: Copy>(s: &[T], shape: Shape, i: usize, memory: &mut [
     }
 }
 
-// Row i goes: what lies after it moves down, or each column, the first first, moves down without its cell.
+// Row i goes: what lies after it moves down, or each column loses a cell.
 pub(crate) fn delete_line<T: Copy>(s: &mut [T], shape: Shape, i: usize) -> Shape
     requires at { i < shape.rows }
     requires room { shape.rows * shape.cols ≤ length s.old }
@@ -97,12 +171,7 @@ pub(crate) fn delete_line<T: Copy>(s: &mut [T], shape: Shape, i: usize) -> Shape
             let from = i * cols;
             slide(s, from + cols, from, rows * cols - (from + cols));
         }
-        Order::ColumnMajor => {
-            // kept: a column moves into where the one before it stood, so that no chunk of the slice holds both its places
-            for c in 0..cols {
-                tighten(s, c * rows, c * (rows - 1), rows - 1, i);
-            }
-        }
+        Order::ColumnMajor => narrow(s, rows, cols, i),
     }
     Shape {
         rows: rows - 1,

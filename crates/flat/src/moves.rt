@@ -1,6 +1,11 @@
 // Moves of a stretch of flat cells.
-ghost use Rattle.std.specs.Prelude.{◌≡◌, ℕ, ◌+◌, ◌<◌, ◌≤◌, length};
-ghost use Rattle.flat.specs.Moves.{Copied, Spread, Tight, Exchanged, Reversed, Filled};
+ghost use Rattle.std.specs.Prelude.{◌≡◌, ℕ, ◌+◌, ◌<◌, ◌≤◌, length, slice_set};
+ghost use Rattle.flat.specs.Moves.{Copied, Parted, Exchanged, Reversed, Filled};
+
+use matrix::limits::SIDE;
+
+// How many cells a long move takes at a time, where as many are there.
+const BULK: usize = 4096;
 
 // Moves n cells within s; the two stretches may overlap.
 // kept: `from` and `to` are places in one slice, since two slices lent from it could not overlap
@@ -9,7 +14,70 @@ pub(crate) fn slide<T: Copy>(s: &mut [T], from: usize, to: usize, n: usize)
     requires to { to + n ≤ length s.old }
     ensures effect { Copied s.old s.new s.old from to n }
 {
-    s.copy_within(from..from + n, to);
+    // kept: an array of any kind of cell is known to fit into memory only where as many cells are there
+    if BULK <= s.len() {
+        stride::<T, BULK>(s, from, to, n);
+    } else if SIDE <= s.len() {
+        stride::<T, SIDE>(s, from, to, n);
+    } else {
+        s.copy_within(from..from + n, to);
+    }
+}
+
+// The same for the cells of one line.
+pub(crate) fn shift<T: Copy>(s: &mut [T], from: usize, to: usize, n: usize)
+    requires short { n ≤ 256 }
+    requires from { from + n ≤ length s.old }
+    requires to { to + n ≤ length s.old }
+    ensures effect { Copied s.old s.new s.old from to n }
+{
+    if SIDE <= s.len() {
+        pass::<T, SIDE>(s, from, to, n);
+    } else {
+        slide(s, from, to, n);
+    }
+}
+
+// The same, N cells at a time: a move down takes the first ones first, a move up the last.
+fn stride<T: Copy, const N: usize>(s: &mut [T], from: usize, to: usize, n: usize)
+    requires some { 0 < N }
+    requires long { N ≤ length s.old }
+    requires from { from + n ≤ length s.old }
+    requires to { to + n ≤ length s.old }
+    ensures effect { Copied s.old s.new s.old from to n }
+{
+    let mut done = 0;
+    while done < n {
+        let some = N.min(n - done);
+        let at = ahead(from, to, done, n - done - some);
+        pass::<T, N>(s, from + at, to + at, some);
+        done += some;
+    }
+}
+
+// Where the next cells of a move stand: after the `done` that have moved down, or before those that have moved up.
+fn ahead(from: usize, to: usize, done: usize, left: usize) -> usize
+    ensures down { to < from → result ≡ done }
+    ensures up { from ≤ to → result ≡ left }
+{
+    if to < from { done } else { left }
+}
+
+// Moves at most N cells within s, by way of an array: the compiler makes one wide move of two plain copies and drops the array,
+// where a walk over one slice goes by cells.
+fn pass<T: Copy, const N: usize>(s: &mut [T], from: usize, to: usize, n: usize)
+    requires long { N ≤ length s.old }
+    requires short { n ≤ N }
+    requires from { from + n ≤ length s.old }
+    requires to { to + n ≤ length s.old }
+    ensures effect { Copied s.old s.new s.old from to n }
+{
+    // kept: only where it knows that there are cells does the compiler take the two copies together, for cells of any size
+    if 0 < n {
+        let mut wait = [s[0]; N];
+        wait[..n].copy_from_slice(&s[from..from + n]);
+        s[to..to + n].copy_from_slice(&wait[..n]);
+    }
 }
 
 // Copies the cells of src into s.
@@ -20,12 +88,20 @@ pub(crate) fn copy<T: Copy>(s: &mut [T], to: usize, src: &[T])
     s[to..to + src.len()].copy_from_slice(src);
 }
 
-// Writes x into the first n cells.
-pub(crate) fn fill_first<T: Copy>(s: &mut [T], n: usize, x: T)
-    requires room { n ≤ length s.old }
-    ensures effect { Filled s.old s.new n x }
+// Writes x at k.
+pub(crate) fn write<T: Copy>(s: &mut [T], k: usize, x: T)
+    requires inside { k < length s.old }
+    ensures effect { s.new ≡ slice_set s.old k x }
 {
-    s[..n].fill_with(|| x);
+    s[k] = x;
+}
+
+// Writes x into the n cells at p.
+pub(crate) fn fill_part<T: Copy>(s: &mut [T], p: usize, n: usize, x: T)
+    requires room { p + n ≤ length s.old }
+    ensures effect { Filled s.old s.new p n x }
+{
+    s[p..p + n].fill_with(|| x);
 }
 
 // Exchanges the n cells at p with those at q, further on.
@@ -46,25 +122,22 @@ pub(crate) fn reverse<T: Copy>(s: &mut [T], p: usize, n: usize)
     s[p..p + n].reverse();
 }
 
-// Moves the n cells at `from` up to `to`, a place apart at `at`, where x goes.
-pub(crate) fn spread<T: Copy>(s: &mut [T], from: usize, to: usize, n: usize, at: usize, x: T)
+// Moves the n cells at `from` up to `to`, g places apart at `at`, where x goes.
+pub(crate) fn part<T: Copy>(
+    s: &mut [T],
+    from: usize,
+    to: usize,
+    n: usize,
+    at: usize,
+    g: usize,
+    x: T,
+)
     requires up { from ≤ to }
     requires at { at ≤ n }
-    requires room { to + n + 1 ≤ length s.old }
-    ensures effect { Spread s.old s.new from to n at x }
+    requires room { to + n + g ≤ length s.old }
+    ensures effect { Parted s.old s.new from to n at g x }
 {
-    slide(s, from + at, to + at + 1, n - at);
+    slide(s, from + at, to + at + g, n - at);
     slide(s, from, to, at);
-    s[to + at] = x;
-}
-
-// Moves the w + 1 cells at `from` down to `to`, and leaves out the one at `at`.
-pub(crate) fn tighten<T: Copy>(s: &mut [T], from: usize, to: usize, w: usize, at: usize)
-    requires down { to ≤ from }
-    requires at { at ≤ w }
-    requires room { from + w + 1 ≤ length s.old }
-    ensures effect { Tight s.old s.new from to w at }
-{
-    slide(s, from, to, at);
-    slide(s, from + at + 1, to + at, w - at);
+    fill_part(s, to + at, g, x);
 }

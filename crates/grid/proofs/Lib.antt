@@ -1,2 +1,2 @@
-pub mod Makes
 pub mod Owes
+pub mod Sames

@@ -1,2 +1,1 @@
 pub mod Grids
-pub mod Makings

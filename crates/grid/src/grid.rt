@@ -1,10 +1,11 @@
 // What a grid is.
 use matrix::shape::Shape;
 
+pub mod all;
+pub mod blanks;
 pub mod lines;
 pub mod making;
 pub mod questions;
-pub mod trips;
 pub mod turns;
 
 // A matrix over lent memory. It stands for the cells that its shape names, where the memory has as many; no call makes

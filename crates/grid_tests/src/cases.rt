@@ -2,7 +2,8 @@
 use crate::expect::*;
 use cells::refusal::Refusal;
 use grid::grid::Grid;
-use grid::grid::making::from_vec_check;
+use matrix::axis::Axis;
+use matrix::making::from_vec_check;
 use matrix::shape::Order;
 
 // A in that order.
@@ -73,6 +74,113 @@ fn making(rt: HostRuntime) {
     let g = lay(&mut memory, &[], 7, Order::RowMajor);
     assert_eq!(rt; g.size(), (0, 0));
     ended(&rt, g, &[]);
+}
+
+#[test]
+fn cleared(rt: HostRuntime) {
+    let mut memory = [0u8; 16];
+    let mut g = a(&mut memory, Order::ColumnMajor);
+    g.clear();
+    assert_eq!(rt; g.size(), (0, 0));
+    assert_eq!(rt; g.order(), Order::ColumnMajor);
+    assert_eq!(rt; g.get(0, 0), None);
+    assert_eq!(rt; g.push_col(&[7, 8]), Ok(()));
+    ended(&rt, g, &[7, 8]);
+}
+
+// One cell everywhere, and the cells past the grid's.
+#[test]
+fn filled(rt: HostRuntime) {
+    let mut memory = [9u8; 8];
+    let mut g = a(&mut memory, Order::RowMajor);
+    g.fill(7);
+    shows(&rt, &g, 3, &[7, 7, 7, 7, 7, 7]);
+    let (cells, n) = g.into_vec();
+    assert_eq!(rt; n, 6);
+    assert!(rt; cells.starts_with(&[7, 7, 7, 7, 7, 7, 9, 9]));
+}
+
+#[test]
+fn swapped(rt: HostRuntime) {
+    let flat = [
+        (Order::RowMajor, [6, 2, 3, 4, 5, 1]),
+        (Order::ColumnMajor, [6, 4, 2, 5, 3, 1]),
+    ];
+    for (order, flat) in flat {
+        let mut memory = [0u8; 16];
+        let mut g = a(&mut memory, order);
+        assert_eq!(rt; g.swap((0, 0), (1, 2)), Ok(()));
+        assert_eq!(rt; g.swap((1, 1), (1, 1)), Ok(()));
+        assert_eq!(rt; g.swap((2, 0), (0, 0)), Err(Refusal::Place));
+        assert_eq!(rt; g.swap((0, 0), (0, 3)), Err(Refusal::Place));
+        shows(&rt, &g, 3, &[6, 2, 3, 4, 5, 1]);
+        ended(&rt, g, &flat);
+    }
+}
+
+// The same cells in the same size, in either order.
+#[test]
+fn same(rt: HostRuntime) {
+    let mut memory = [0u8; 16];
+    let mut others = [9u8; 8];
+    let g = a(&mut memory, Order::RowMajor);
+    let mut h = a(&mut others, Order::ColumnMajor);
+    assert!(rt; g.same(&h));
+    assert!(rt; h.same(&g));
+    assert_eq!(rt; h.put(1, 2, 7), Ok(()));
+    assert!(rt; !g.same(&h));
+    assert_eq!(rt; h.put(1, 2, 6), Ok(()));
+    assert!(rt; g.same(&h));
+    h.transpose();
+    assert!(rt; !g.same(&h));
+    h.clear();
+    assert!(rt; !g.same(&h));
+}
+
+// Blank rows and columns after the rest and before it.
+#[test]
+fn spaced(rt: HostRuntime) {
+    for order in [Order::RowMajor, Order::ColumnMajor] {
+        let mut memory = [9u8; 24];
+        let mut g = a(&mut memory, order);
+        assert_eq!(rt; g.expand_cols(2), Ok(()));
+        shows(&rt, &g, 5, &[1, 2, 3, 0, 0, 4, 5, 6, 0, 0]);
+        assert_eq!(rt; g.prepend_rows(1), Ok(()));
+        shows(&rt, &g, 5, &[0, 0, 0, 0, 0, 1, 2, 3, 0, 0, 4, 5, 6, 0, 0]);
+        assert_eq!(rt; g.delete(Axis::Col, 4), Ok(()));
+        assert_eq!(rt; g.prepend_cols(1), Ok(()));
+        shows(&rt, &g, 5, &[0, 0, 0, 0, 0, 0, 1, 2, 3, 0, 0, 4, 5, 6, 0]);
+        assert_eq!(rt; g.delete(Axis::Row, 0), Ok(()));
+        assert_eq!(rt; g.expand_rows(2), Ok(()));
+        shows(
+            &rt,
+            &g,
+            5,
+            &[0, 1, 2, 3, 0, 0, 4, 5, 6, 0, 0, 0, 0, 0, 0, 0, 0, 0, 0, 0],
+        );
+        assert_eq!(rt; g.order(), order);
+    }
+}
+
+// Nothing for no lines and in an empty grid, and too many lines.
+#[test]
+fn spaced_or_not(rt: HostRuntime) {
+    let mut memory = [9u8; 8];
+    let mut g = a(&mut memory, Order::RowMajor);
+    assert_eq!(rt; g.expand_rows(0), Ok(()));
+    assert_eq!(rt; g.prepend_cols(0), Ok(()));
+    assert_eq!(rt; g.expand_rows(255), Err(Refusal::Side));
+    assert_eq!(rt; g.prepend_cols(usize::MAX), Err(Refusal::Side));
+    assert_eq!(rt; g.expand_cols(2), Err(Refusal::Full));
+    assert_eq!(rt; g.prepend_rows(1), Err(Refusal::Full));
+    shows(&rt, &g, 3, &[1, 2, 3, 4, 5, 6]);
+    assert_eq!(rt; g.expand_cols(1), Ok(()));
+    ended(&rt, g, &[1, 2, 3, 0, 4, 5, 6, 0]);
+    let mut memory = [9u8; 8];
+    let mut g = lay(&mut memory, &[], 3, Order::RowMajor);
+    assert_eq!(rt; g.expand_rows(2), Ok(()));
+    assert_eq!(rt; g.prepend_cols(300), Ok(()));
+    assert!(rt; g.is_empty());
 }
 
 // Memory that is full, and the most rows.

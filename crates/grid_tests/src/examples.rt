@@ -1,17 +1,20 @@
 // The examples of the original's documentation, for the calls that stand here.
 //
 // The original's `==` of two grids is `shows` here, its None and its panic are refusals, and `flatten` is `into_vec`.
+// The examples of `iter_row`, `iter_col`, `iter_rows` and `iter_cols` are in walked.rt, and that of `map_ref` is with the tests of
+// grids mapped.
 // These examples have no counterpart:
 // - `grid!` and `grid_cm!` with rows of unequal length, which do not compile: there is no macro here that makes a grid;
-// - `iter`, `iter_mut`, `iter_row`, `iter_row_mut`, `iter_col`, `iter_col_mut`, `iter_rows`, `iter_cols`, `indexed_iter`,
-//   `indexed_iter_mut` and `indexed_into_iter`: the grid has no iterators;
-// - `fill_with`, `map` and `map_ref`: they take closures, and the grid has no calls that do;
-// - `fill`, `expand_rows`, `expand_cols`, `prepend_rows` and `prepend_cols`: the grid has no such calls.
+// - `iter`, `iter_mut`, `iter_row_mut`, `iter_col_mut`, `indexed_iter_mut` and `indexed_into_iter`, the last two with two
+//   examples each: there are no walks here that go by flat cells alone, that change a grid or that end it;
+// - `fill_with`, which takes a closure, and `map`, which ends its grid: its example is that of `map_ref`.
 use crate::expect::*;
 use cells::refusal::Refusal;
 use grid::grid::Grid;
-use grid::grid::making::{from_vec_check, new_check};
+use matrix::making::{from_vec_check, new_check};
 use matrix::shape::Order;
+use walks::index::indexed_iter;
+use walks::walk::Walk;
 
 // `new`, `from_vec`, `is_empty`, `grid!` of three rows, and the example of the front page.
 #[test]
@@ -167,4 +170,54 @@ fn rotated(rt: HostRuntime) {
     let mut g = lay(&mut memory, &[1, 2, 3, 4], 2, Order::RowMajor);
     g.rotate_right();
     shows(&rt, &g, 2, &[3, 1, 4, 2]);
+}
+
+#[test]
+fn filled(rt: HostRuntime) {
+    let mut memory = [0u8; 16];
+    let mut g = lay(&mut memory, &[1, 2, 3, 4, 5, 6], 3, Order::RowMajor);
+    g.fill(7);
+    shows(&rt, &g, 3, &[7, 7, 7, 7, 7, 7]);
+}
+
+// `flatten`.
+#[test]
+fn flattened(rt: HostRuntime) {
+    let mut memory = [0u8; 16];
+    let g = lay(&mut memory, &[1, 2, 3, 4, 5, 6], 3, Order::RowMajor);
+    ended(&rt, g, &[1, 2, 3, 4, 5, 6]);
+}
+
+// `indexed_iter`: its first cell, and the loop over all of them.
+#[test]
+fn indexed(rt: HostRuntime) {
+    let mut memory = [0u8; 16];
+    let g = lay(&mut memory, &[1, 2, 3, 4], 2, Order::RowMajor);
+    let mut walk = indexed_iter(&g);
+    for item in [((0, 0), 1), ((0, 1), 2), ((1, 0), 3), ((1, 1), 4)] {
+        assert_eq!(rt; walk.next(&g), Some(item));
+    }
+    assert_eq!(rt; walk.next(&g), None);
+}
+
+// `expand_rows`, `expand_cols`, `prepend_rows` and `prepend_cols`, each on the grid of its example.
+#[test]
+fn spaced(rt: HostRuntime) {
+    let flat = [1, 2, 3, 3, 4, 5];
+    let mut memory = [9u8; 16];
+    let mut g = lay(&mut memory, &flat, 3, Order::RowMajor);
+    assert_eq!(rt; g.expand_rows(2), Ok(()));
+    shows(&rt, &g, 3, &[1, 2, 3, 3, 4, 5, 0, 0, 0, 0, 0, 0]);
+    let mut memory = [9u8; 16];
+    let mut g = lay(&mut memory, &flat, 3, Order::RowMajor);
+    assert_eq!(rt; g.expand_cols(2), Ok(()));
+    shows(&rt, &g, 5, &[1, 2, 3, 0, 0, 3, 4, 5, 0, 0]);
+    let mut memory = [9u8; 16];
+    let mut g = lay(&mut memory, &flat, 3, Order::RowMajor);
+    assert_eq!(rt; g.prepend_rows(2), Ok(()));
+    shows(&rt, &g, 3, &[0, 0, 0, 0, 0, 0, 1, 2, 3, 3, 4, 5]);
+    let mut memory = [9u8; 16];
+    let mut g = lay(&mut memory, &flat, 3, Order::RowMajor);
+    assert_eq!(rt; g.prepend_cols(2), Ok(()));
+    shows(&rt, &g, 5, &[0, 0, 1, 2, 3, 0, 0, 3, 4, 5]);
 }

@@ -7,3 +7,5 @@ mod cases;
 mod examples;
 #[cfg(test)]
 mod expect;
+#[cfg(test)]
+mod walked;

@@ -8,9 +8,9 @@ use boards::board::Board;
 use boards::turned::TurnedBoard;
 use cells::refusal::Refusal;
 use grid::grid::Grid;
-use grid::grid::making::from_vec_check;
 use listing::call::{Ground, Layout};
 use matrix::limits::SIDE;
+use matrix::making::from_vec_check;
 use seats::board::SeatBoard;
 use seats::board::making::seats_check;
 

@@ -1,14 +1,11 @@
 -- Words say one call at most.
 use Rattle.std.proofs.Common.{◌≡◌, ℕ, zero, suc, ◌+◌, List, [], ◌∷◌, codes, length, ◌≤◌, ◌-◌, get_or, take, drop, take_all, ap, sym, ◌∙◌, subst, Bor, Ok, None, Option, Result, arith, rules}
+use Rattle.matrix.specs.Words.{Named}
 use Rattle.listing.specs.declared.call.Fresh.{Fresh}
 use Rattle.listing.specs.declared.call.Ground.{Ground}
 use Rattle.listing.specs.declared.call.SheetKind.{SheetKind}
-use Rattle.listing.specs.declared.call.NoKind.{NoKind}
-use Rattle.listing.specs.declared.name.Name.{Name}
-use Rattle.listing.specs.declared.name.NoName.{NoName}
-use Rattle.listing.specs.Names.{name_word, Named}
 use Rattle.listing.specs.Spellings.{Nothing, Read}
-use Rattle.listing.specs.Calls.{SaysSheet, SaysGround, SaysKeep, Turned, Other, KindNamed, kind_word, texts}
+use Rattle.listing.specs.Calls.{SaysSheet, SaysGround, SaysKeep, Turned, Other, kind_word, texts}
 
 -- one word more
 pub turned_more : (n : ℕ) (ws r : List (List ℕ)) → Turned n ws (codes "turned" ∷ r) → Turned (suc n) ws r
@@ -75,8 +72,5 @@ pub nothing_read : {W A : Type 0} (says : W → A → Type 0) (w : W) (r : Optio
 nothing_read says w r e h = subst (λ q. Read says w q) e h
 
 -- a word that was read
-pub kind_told : (w : List ℕ) (r : Result SheetKind NoKind) (kind : SheetKind) → KindNamed w r → r ≡ Ok kind → w ≡ kind_word kind
-kind_told w r kind h e = subst (λ q. KindNamed w q) e h
-
-pub name_told : (w : List ℕ) (r : Result Name NoName) (name : Name) → Named w r → r ≡ Ok name → w ≡ name_word name
-name_told w r name h e = subst (λ q. Named w q) e h
+pub told : {X E : Type 0} (word : X → List ℕ) (w : List ℕ) (r : Result X E) (x : X) → Named word w r → r ≡ Ok x → w ≡ word x
+told word w r x h e = subst (λ q. Named word w q) e h

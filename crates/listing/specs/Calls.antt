@@ -4,7 +4,6 @@ use Rattle.matrix.specs.Orders.{order_word}
 use Rattle.listing.specs.declared.name.Name.{Name}
 use Rattle.listing.specs.declared.call.SheetKind.{SheetKind}
 use Rattle.listing.specs.declared.call.SheetKind.TheVariants.{Passages, Penalties}
-use Rattle.listing.specs.declared.call.NoKind.{NoKind}
 use Rattle.listing.specs.declared.call.Ground.{Ground}
 use Rattle.listing.specs.declared.call.Keeping.{Keeping}
 use Rattle.listing.specs.declared.call.Fresh.{Fresh}
@@ -21,11 +20,6 @@ texts ws = map (λ w. w.now) ws
 abbrev pub kind_word : SheetKind → List ℕ
 kind_word Passages = codes "passages"
 kind_word Penalties = codes "penalties"
-
--- A kind is read from its own word, and from no other.
-abbrev pub KindNamed : List ℕ → Result SheetKind NoKind → Type 0
-KindNamed w (Ok kind) = w ≡ kind_word kind
-KindNamed w (Err e) = (kind : SheetKind) → w ≡ kind_word kind → ⊥
 
 -- a ground, and the words after it
 abbrev pub SaysGround : List (List ℕ) → Ground × List (List ℕ) → Type 0

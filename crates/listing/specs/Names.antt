@@ -1,9 +1,8 @@
 -- The word that names each call.
-use Rattle.std.specs.Prelude.{◌≡◌, ℕ, List, Ok, Err, codes, Result}
+use Rattle.std.specs.Prelude.{ℕ, List, codes}
 use Rattle.matrix.specs.declared.axis.Axis.TheVariants.{Row, Col}
 use Rattle.listing.specs.declared.name.Name.{Name}
 use Rattle.listing.specs.declared.name.Name.TheVariants.{New, Start, Put, Insert, Remove, Transpose, Flip, StepBack, Publish, Reopen, Size, Get, Owed, Kept, Settled, Show, Tally}
-use Rattle.listing.specs.declared.name.NoName.{NoName}
 
 abbrev pub name_word : Name → List ℕ
 name_word New = codes "new"
@@ -26,8 +25,3 @@ name_word Kept = codes "kept"
 name_word Settled = codes "settled"
 name_word Show = codes "show"
 name_word Tally = codes "tally"
-
--- A name is read from its own word, and from no other.
-abbrev pub Named : List ℕ → Result Name NoName → Type 0
-Named w (Ok name) = w ≡ name_word name
-Named w (Err e) = (name : Name) → w ≡ name_word name → ⊥

@@ -1,8 +1,9 @@
 // What a line of a scorer's list asks for.
 ghost use Rattle.std.specs.Prelude.{◌≡◌, [], Ok, None};
 ghost use Rattle.std.specs.Option.{option_map};
+ghost use Rattle.matrix.specs.Words.{Named};
 ghost use Rattle.listing.specs.Spellings.{Read};
-ghost use Rattle.listing.specs.Calls.{Reads, SaysAlone, SaysPlace, SaysPut, SaysInsertion, SaysRemoval, SaysCall, SaysRoom, SaysSheet, SaysKeep, SaysGround, Turned, Other, KindNamed, texts};
+ghost use Rattle.listing.specs.Calls.{Reads, SaysAlone, SaysPlace, SaysPut, SaysInsertion, SaysRemoval, SaysCall, SaysRoom, SaysSheet, SaysKeep, SaysGround, Turned, Other, kind_word, texts};
 
 use crate::digits::number;
 use crate::name::Name;
@@ -26,7 +27,7 @@ pub struct NoKind;
 impl FromStr for SheetKind {
     type Err = NoKind;
 
-    ghost from_str_gives = { KindNamed };
+    ghost from_str_gives = { Named kind_word };
 
     fn from_str(word: &str) -> Result<SheetKind, NoKind> {
         match word {

@@ -1,6 +1,7 @@
 // The names of the calls.
 ghost use Rattle.std.specs.Prelude.{Some};
-ghost use Rattle.listing.specs.Names.{name_word, Named};
+ghost use Rattle.matrix.specs.Words.{Named};
+ghost use Rattle.listing.specs.Names.{name_word};
 
 use matrix::axis::Axis;
 use std::fmt;
@@ -35,7 +36,7 @@ pub struct NoName;
 impl FromStr for Name {
     type Err = NoName;
 
-    ghost from_str_gives = { Named };
+    ghost from_str_gives = { Named name_word };
 
     fn from_str(word: &str) -> Result<Name, NoName> {
         match word {

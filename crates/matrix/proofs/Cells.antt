@@ -1,10 +1,10 @@
 -- What stands at a place of a list, as an Option.
-use Rattle.std.proofs.Common.{◌≡◌, ℕ, zero, suc, ◌+◌, ◌-◌, ◌<◌, ◌≤◌, ◌≢◌, List, [], ◌∷◌, length, get_or, set, Some, None, Option, sym, refl, ap, ◌∙◌, ⊎_elim, arith}
+use Rattle.std.proofs.Common.{◌≡◌, ℕ, zero, suc, ◌+◌, ◌-◌, ◌<◌, ◌≤◌, ◌≢◌, List, [], ◌∷◌, length, drop, get_or, set, Some, None, Option, sym, refl, ap, ◌∙◌, ⊎_elim, arith}
 use Rattle.std.specs.List.{slice_get}
 use Rattle.std.proofs.lemmas.Bool.Decides.{nat_tests}
 use Rattle.std.proofs.lemmas.Bool.{cases_order, cases_lt}
 use Rattle.std.proofs.lemmas.Option.{slice_get-get_or, slice_get_past}
-use Rattle.matrix.specs.Matrix.{spliced, skipped, before, listed, over}
+use Rattle.matrix.specs.Matrix.{spliced, gapped, skipped, before, listed, over}
 
 -- a cell of a list is there, so it can stand in for a default
 pub present : {X : Type 0} (xs : List X) (i : ℕ) → i < length xs → X
@@ -45,6 +45,26 @@ module _ {X : Type 0} (i : ℕ) (x : X) (f : ℕ → X) (k : ℕ) where
   pub spliced_above : i < k → spliced i x f k ≡ f (k - 1)
   spliced_above h = grind (arith, nat_tests)
 
+module _ {X : Type 0} (i g : ℕ) (x : X) (f : ℕ → X) (k : ℕ) where
+  pub gapped_below : k < i → gapped i g x f k ≡ f k
+  gapped_below h = grind (arith, nat_tests)
+
+  pub gapped_at : i ≤ k → k < i + g → gapped i g x f k ≡ x
+  gapped_at h l = grind (arith, nat_tests)
+
+  pub gapped_above : i + g ≤ k → gapped i g x f k ≡ f (k - g)
+  gapped_above h = grind (arith, nat_tests)
+
+pub gapped_same : {X : Type 0} (i g : ℕ) (x y : X) (f h : ℕ → X) (k : ℕ) → (k < i → f k ≡ h k) → (i ≤ k → k < i + g → x ≡ y) → (i + g ≤ k → f (k - g) ≡ h (k - g)) → gapped i g x f k ≡ gapped i g y h k
+gapped_same i g x y f h k a b c =
+    ⊎_elim
+    (λ (l : k < i). gapped_below i g x f k l ∙ a l ∙ sym (gapped_below i g y h k l))
+    (λ (l : i ≤ k). ⊎_elim
+    (λ (u : k < i + g). gapped_at i g x f k l u ∙ b l u ∙ sym (gapped_at i g y h k l u))
+    (λ (u : i + g ≤ k). gapped_above i g x f k u ∙ c u ∙ sym (gapped_above i g y h k u))
+    (cases_lt k (i + g)))
+    (cases_lt k i)
+
 pub spliced_same : {X : Type 0} (i : ℕ) (x y : X) (f g : ℕ → X) (k : ℕ) → (k < i → f k ≡ g k) → (k ≡ i → x ≡ y) → (i < k → f (k - 1) ≡ g (k - 1)) → spliced i x f k ≡ spliced i y g k
 spliced_same i x y f g k a b c =
     ⊎_elim
@@ -72,6 +92,14 @@ nth_ext [] [] h = refl
 nth_ext [] (y ∷ ys) h = let z : None ≡ Some y = h 0 in cc
 nth_ext (x ∷ xs) [] h = let z : Some x ≡ None = h 0 in cc
 nth_ext (x ∷ xs) (y ∷ ys) h = let z : Some x ≡ Some y = h 0 in let t : xs ≡ ys = nth_ext xs ys (λ k. h (suc k)) in cc
+
+-- lists that are as long, with the same cell at each place from n on
+pub drop_ext : {X : Type 0} (n : ℕ) (xs ys : List X) → length xs ≡ length ys → ((k : ℕ) → n ≤ k → slice_get xs k ≡ slice_get ys k) → drop n xs ≡ drop n ys
+drop_ext zero xs ys l h = nth_ext xs ys (λ k. h k (omega arith))
+drop_ext (suc n) [] [] l h = refl
+drop_ext (suc n) [] (y ∷ ys) l h = absurd (omega arith)
+drop_ext (suc n) (x ∷ xs) [] l h = absurd (omega arith)
+drop_ext (suc n) (x ∷ xs) (y ∷ ys) l h = drop_ext n xs ys (omega arith) (λ k g. h (suc k) (omega arith))
 
 -- a memory that has f in its first n cells, and is as it was after them
 pub over_is : {X : Type 0} (n : ℕ) (f : ℕ → Option X) (xs ys : List X) → n ≤ length xs → length ys ≡ length xs → ((k : ℕ) → k < n → slice_get ys k ≡ f k) → ((k : ℕ) → n ≤ k → slice_get ys k ≡ slice_get xs k) → ys ≡ over (listed n f) xs

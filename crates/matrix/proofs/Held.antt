@@ -1,13 +1,14 @@
 -- Flat cells under a form, in both orders.
-use Rattle.std.proofs.Common.{◌≡◌, ℕ, ◌*◌, ◌<◌, ◌≤◌, List, length, get_or, set, Some, Option, sym, refl, ap, ◌∙◌, subst, ⊎_elim, mul_comm, arith}
-use Rattle.std.specs.List.{slice_get}
+use Rattle.std.proofs.Common.{◌≡◌, ℕ, ◌*◌, ◌<◌, ◌≤◌, List, length, get_or, set, Some, Option, sym, refl, ap, ◌∙◌, subst, ⊎_elim, mul_comm, length-set, arith}
+use Rattle.std.specs.List.{slice_get, swap}
 use Rattle.std.proofs.lemmas.Option.{slice_get-get_or}
+use Rattle.std.proofs.lemmas.List.Edits.{swap_is}
 use Rattle.std.proofs.lemmas.Bool.Decides.{nat_tests}
 use Rattle.std.proofs.lemmas.Bool.{cases_lt, cases_eq}
 use Rattle.matrix.specs.declared.shape.Order.{Order}
 use Rattle.matrix.specs.declared.shape.Order.TheVariants.{RowMajor, ColumnMajor}
 use Rattle.matrix.specs.declared.shape.Shape.{Shape}
-use Rattle.matrix.specs.Matrix.{Matrix, Shaped, inside, put_cell, turned}
+use Rattle.matrix.specs.Matrix.{Matrix, Shaped, inside, put_cell, swap_cells, turned}
 use Rattle.matrix.specs.Shapes.{Form, form, place, laid, other, turned_form, vacant, fitted, held}
 use Rattle.matrix.specs.declared.limits.Limits.{Limits}
 use Rattle.matrix.specs.Rules.{Within, grid_limits}
@@ -173,3 +174,20 @@ put_placed {T} R C at xs r c k x hr hc apart e l = same_matrix (placed R C at (s
 
 pub put_laid : {T : Type 0} (f : Form) (xs : List T) (r c k : ℕ) (x : T) → r < f.rows → c < f.cols → k ≡ place f.order f.rows f.cols r c → k < length xs → laid f (set xs k x) ≡ put_cell r c x (laid f xs)
 put_laid f xs r c k x hr hc = put_placed f.rows f.cols (place f.order f.rows f.cols) xs r c k x hr hc (λ a b ha hb e. place_apart f.order f.rows f.cols a b r c ha hb hr hc e)
+
+-- a put of what lies at b into a, and of what lay at a into b
+pub puts_swap : {T : Type 0} (a b : ℕ × ℕ) (x y : T) (m : Matrix T) → m.cell a.0 a.1 ≡ Some x → m.cell b.0 b.1 ≡ Some y → put_cell b.0 b.1 x (put_cell a.0 a.1 y m) ≡ swap_cells a b m
+puts_swap a b x y m ex ey = same_matrix (put_cell b.0 b.1 x (put_cell a.0 a.1 y m)) (swap_cells a b m) refl refl (λ r c. grind (arith, nat_tests))
+
+-- the cells at two places of a list, exchanged
+pub swap_laid : {T : Type 0} (f : Form) (xs : List T) (a b : ℕ × ℕ) (j k : ℕ) → a.0 < f.rows → a.1 < f.cols → j ≡ place f.order f.rows f.cols a.0 a.1 → j < length xs → b.0 < f.rows → b.1 < f.cols → k ≡ place f.order f.rows f.cols b.0 b.1 → k < length xs → laid f (swap xs j k) ≡ swap_cells a b (laid f xs)
+swap_laid f xs a b j k ra ca ej lj rb cb ek lk =
+    let d = present xs j lj in
+    let x = get_or xs j d in
+    let y = get_or xs k d in
+    ap (laid f) (sym (swap_is xs j k d lj lk))
+    ∙ put_laid f (set xs j y) b.0 b.1 k x rb cb ek (omega (arith, length-set xs j y))
+    ∙ ap (put_cell b.0 b.1 x) (put_laid f xs a.0 a.1 j y ra ca ej lj)
+    ∙ puts_swap a b x y (laid f xs)
+    (inside_in f.rows f.cols a.0 a.1 _ ra ca ∙ ap (slice_get xs) (sym ej) ∙ slice_get-get_or xs j d lj)
+    (inside_in f.rows f.cols b.0 b.1 _ rb cb ∙ ap (slice_get xs) (sym ek) ∙ slice_get-get_or xs k d lk)

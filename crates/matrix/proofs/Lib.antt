@@ -4,6 +4,7 @@ pub mod Goes
 pub mod Whole
 pub mod Undo
 pub mod Held
+pub mod Makes
 pub mod Along
 pub mod Flats
 pub mod Gather

@@ -1,12 +1,12 @@
 -- When two matrices are one, and when flat cells are a matrix.
-use Rattle.std.proofs.Common.{◌≡◌, ℕ, ◌+◌, ◌-◌, ◌*◌, ◌<◌, ◌≤◌, List, length, Some, None, Option, sym, ◌∙◌, ⊎_elim, arith}
+use Rattle.std.proofs.Common.{◌≡◌, ℕ, ◌+◌, ◌-◌, ◌*◌, ◌<◌, ◌≤◌, List, length, cond, nat_lt, Some, None, Option, sym, ◌∙◌, ⊎_elim, arith}
 use Rattle.std.specs.List.{slice_get}
 use Rattle.std.proofs.lemmas.Bool.Decides.{nat_tests}
 use Rattle.std.proofs.lemmas.Bool.{cases_order, cases_lt, cases_eq}
 use Rattle.std.proofs.lemmas.Option.{none-some, slice_get_past}
-use Rattle.matrix.specs.Matrix.{Matrix, Shaped, inside, turned, insert_row, insert_col, remove_row, remove_col, flip_rows, rotate_half, skipped, left_across}
+use Rattle.matrix.specs.Matrix.{Matrix, Shaped, inside, turned, insert_row, insert_col, remove_row, remove_col, space_rows, flip_rows, rotate_half, skipped, left_across}
 use Rattle.matrix.specs.Shapes.{rowwise}
-use Rattle.matrix.proofs.Cells.{spliced_below, spliced_at, spliced_above, skipped_above}
+use Rattle.matrix.proofs.Cells.{spliced_below, spliced_at, spliced_above, gapped_below, gapped_at, gapped_above, skipped_above}
 
 -- equal sizes and equal cells
 pub same_matrix : {T : Type 0} (m n : Matrix T) → m.rows ≡ n.rows → m.cols ≡ n.cols → ((r c : ℕ) → m.cell r c ≡ n.cell r c) → m ≡ n
@@ -86,6 +86,24 @@ whole_insert_row {T} i line m hi fits w = record {
 
 pub whole_insert_col : {T : Type 0} (i : ℕ) (line : List T) (m : Matrix T) → i ≤ m.cols → (0 < m.cols → length line ≡ m.rows) → Whole m → Whole (insert_col i line m)
 whole_insert_col i line m hi fits w = whole_turned (whole_insert_row i line (turned m) hi fits (whole_turned w))
+
+pub blank_in : {T : Type 0} (c C : ℕ) (x : T) → c < C → cond (nat_lt c C) (Some x) None ≡ Some x
+blank_in c C x h = grind (arith, nat_tests)
+
+blank_out : {T : Type 0} (c C : ℕ) (x : T) → C ≤ c → cond (nat_lt c C) (Some x) None ≡ None
+blank_out c C x h = grind (arith, nat_tests)
+
+pub whole_space_rows : {T : Type 0} (i n : ℕ) (x : T) (m : Matrix T) → i ≤ m.rows → Whole m → Whole (space_rows i n x m)
+whole_space_rows i n x m hi w = record {
+  below = λ r c h. gapped_above i n (cond (nat_lt c m.cols) (Some x) None) (λ k. m.cell k c) r (omega arith) ∙ w.below (r - n) c (omega arith);
+  right = λ r c h. ⊎_elim
+      (λ (l : r < i). gapped_below i n (cond (nat_lt c m.cols) (Some x) None) (λ k. m.cell k c) r l ∙ w.right r c h)
+      (λ (l : i ≤ r). ⊎_elim
+      (λ (u : r < i + n). gapped_at i n (cond (nat_lt c m.cols) (Some x) None) (λ k. m.cell k c) r l u ∙ blank_out c m.cols x h)
+      (λ (u : i + n ≤ r). gapped_above i n (cond (nat_lt c m.cols) (Some x) None) (λ k. m.cell k c) r u ∙ w.right (r - n) c h)
+      (cases_lt r (i + n)))
+      (cases_lt r i);
+}
 
 pub across_stays : (lines across : ℕ) → (lines ≡ 1 → ⊥) → left_across lines across ≡ across
 across_stays lines across h = grind (arith, nat_tests)

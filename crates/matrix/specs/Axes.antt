@@ -2,9 +2,9 @@
 use Rattle.std.specs.Prelude.{ℕ, List, Result}
 use Rattle.cells.specs.declared.refusal.Refusal.{Refusal}
 use Rattle.matrix.specs.declared.limits.Limits.{Limits}
-use Rattle.matrix.specs.Matrix.{Matrix, turned, insert_row, remove_row, row, flip_rows}
+use Rattle.matrix.specs.Matrix.{Matrix, turned, insert_row, expand_rows, prepend_rows, remove_row, row, flip_rows}
 use Rattle.matrix.specs.Shapes.{Form, turned_form}
-use Rattle.matrix.specs.Rules.{insert_row_answer, remove_row_answer, delete_row_answer}
+use Rattle.matrix.specs.Rules.{insert_row_answer, more_rows_answer, remove_row_answer, delete_row_answer}
 use Rattle.matrix.specs.declared.axis.Axis.{Axis}
 use Rattle.matrix.specs.declared.axis.Axis.TheVariants.{Row, Col}
 
@@ -34,6 +34,12 @@ along_form Col f = turned_form f
 abbrev pub inserted : {T : Type 0} → Axis → ℕ → List T → Matrix T → Matrix T
 inserted ax i line m = along ax (insert_row i line (along ax m))
 
+abbrev pub expanded : {T : Type 0} → Axis → ℕ → T → Matrix T → Matrix T
+expanded ax n x m = along ax (expand_rows n x (along ax m))
+
+abbrev pub prepended : {T : Type 0} → Axis → ℕ → T → Matrix T → Matrix T
+prepended ax n x m = along ax (prepend_rows n x (along ax m))
+
 abbrev pub removed : {T : Type 0} → Axis → ℕ → Matrix T → Matrix T
 removed ax i m = along ax (remove_row i (along ax m))
 
@@ -45,6 +51,9 @@ flipped ax m = along ax (flip_rows (along ax m))
 
 abbrev pub insert_along : {T : Type 0} → Limits → Axis → ℕ → List T → Matrix T → Result Unit Refusal
 insert_along l ax i line m = insert_row_answer l i line (along ax m)
+
+abbrev pub more_along : {T : Type 0} → Limits → Axis → ℕ → Matrix T → Result Unit Refusal
+more_along l ax n m = more_rows_answer l n (along ax m)
 
 abbrev pub remove_along : {T : Type 0} → Axis → ℕ → List T → Matrix T → Result Unit Refusal
 remove_along ax i memory m = remove_row_answer i memory (along ax m)

@@ -1,7 +1,9 @@
 pub mod Matrix
 pub mod Shapes
+pub mod Words
 pub mod Orders
 pub mod Rules
+pub mod Makings
 pub mod Axes
 pub mod Runs
 pub mod Laws

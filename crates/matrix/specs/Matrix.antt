@@ -1,5 +1,5 @@
 -- What a matrix is, and what each call makes of it.
-use Rattle.std.specs.Prelude.{◌≡◌, ℕ, zero, suc, ◌+◌, ◌-◌, ◌<◌, ◌≤◌, cond, List, [], ◌∷◌, ◌++◌, length, drop, Some, None, Option, ◌==◌, nat_lt}
+use Rattle.std.specs.Prelude.{◌≡◌, ℕ, zero, suc, ◌+◌, ◌-◌, ◌<◌, ◌≤◌, cond, ◌&&◌, ◌||◌, List, [], ◌∷◌, ◌++◌, length, drop, Some, None, Option, ◌==◌, nat_lt}
 use Rattle.std.specs.List.{slice_get}
 
 -- How many rows and columns, and the cell at each place, absent outside.
@@ -30,15 +30,38 @@ filled R C x = record { rows = R; cols = C; cell = λ r c. inside R C r c (Some 
 abbrev pub put_cell : {T : Type 0} → ℕ → ℕ → T → Matrix T → Matrix T
 put_cell r c x m = record { rows = m.rows; cols = m.cols; cell = λ a b. cond (a == r) (cond (b == c) (Some x) (m.cell a b)) (m.cell a b) }
 
+-- the cells at places a and b, each in the other's place
+abbrev pub swap_cells : {T : Type 0} → ℕ × ℕ → ℕ × ℕ → Matrix T → Matrix T
+swap_cells a b m = record { rows = m.rows; cols = m.cols; cell = λ r c. cond (r == b.0 && c == b.1) (m.cell a.0 a.1) (cond (r == a.0 && c == a.1) (m.cell b.0 b.1) (m.cell r c)) }
+
 -- x goes to place i; what stood before i stays, the rest moves by one.
 abbrev pub spliced : {X : Type 0} → ℕ → X → (ℕ → X) → ℕ → X
 spliced i x f k = cond (nat_lt k i) (f k) (cond (k == i) x (f (k - 1)))
+
+-- x goes to the g places from i on; what stood before i stays, the rest moves by g.
+abbrev pub gapped : {X : Type 0} → ℕ → ℕ → X → (ℕ → X) → ℕ → X
+gapped i g x f k = cond (nat_lt k i) (f k) (cond (nat_lt k (i + g)) x (f (k - g)))
 
 abbrev pub insert_row : {T : Type 0} → ℕ → List T → Matrix T → Matrix T
 insert_row i line m = record { rows = m.rows + 1; cols = length line; cell = λ r c. spliced i (slice_get line c) (λ k. m.cell k c) r }
 
 abbrev pub insert_col : {T : Type 0} → ℕ → List T → Matrix T → Matrix T
 insert_col i line m = record { rows = length line; cols = m.cols + 1; cell = λ r c. spliced i (slice_get line r) (λ k. m.cell r k) c }
+
+-- n rows of x put in at i
+abbrev pub space_rows : {T : Type 0} → ℕ → ℕ → T → Matrix T → Matrix T
+space_rows i n x m = record { rows = m.rows + n; cols = m.cols; cell = λ r c. gapped i n (cond (nat_lt c m.cols) (Some x) None) (λ k. m.cell k c) r }
+
+-- n rows more; nothing for no rows, and in an empty matrix
+abbrev pub more_rows : {T : Type 0} → ℕ → ℕ → T → Matrix T → Matrix T
+more_rows i n x m = cond (n == 0 || m.cols == 0) m (space_rows i n x m)
+
+-- after the rest, and before it
+abbrev pub expand_rows : {T : Type 0} → ℕ → T → Matrix T → Matrix T
+expand_rows n x m = more_rows m.rows n x m
+
+abbrev pub prepend_rows : {T : Type 0} → ℕ → T → Matrix T → Matrix T
+prepend_rows n x m = more_rows 0 n x m
 
 -- Which place comes to k where place i is taken out.
 abbrev pub skipped : ℕ → ℕ → ℕ
@@ -92,3 +115,10 @@ rotate_right m = record { rows = m.cols; cols = m.rows; cell = λ r c. cond (nat
 
 abbrev pub rotate_half : {T : Type 0} → Matrix T → Matrix T
 rotate_half m = record { rows = m.rows; cols = m.cols; cell = λ r c. inside m.rows m.cols r c (m.cell (m.rows - 1 - r) (m.cols - 1 - c)) }
+
+-- the column rules: the row rules on the matrix turned
+abbrev pub expand_cols : {T : Type 0} → ℕ → T → Matrix T → Matrix T
+expand_cols n x m = turned (expand_rows n x (turned m))
+
+abbrev pub prepend_cols : {T : Type 0} → ℕ → T → Matrix T → Matrix T
+prepend_cols n x m = turned (prepend_rows n x (turned m))

@@ -43,6 +43,20 @@ insert_row_answer l i line m = insert_answer l i (length line) m.rows m.cols
 abbrev pub insert_col_answer : {T : Type 0} → Limits → ℕ → List T → Matrix T → Result Unit Refusal
 insert_col_answer l i line m = insert_row_answer l i line (turned m)
 
+-- n lines more to `count` lines of `across` cells; for no lines, and in an empty matrix, nothing is done and nothing refused
+abbrev pub more_answer : Limits → ℕ → ℕ → ℕ → Result Unit Refusal
+more_answer l n count across =
+    cond (n == 0 || across == 0) accepted
+    (refused 7 (nat_lt l.side (count + n))
+    (refused 8 (nat_lt l.most ((count + n) * across))
+    accepted))
+
+abbrev pub more_rows_answer : {T : Type 0} → Limits → ℕ → Matrix T → Result Unit Refusal
+more_rows_answer l n m = more_answer l n m.rows m.cols
+
+abbrev pub more_cols_answer : {T : Type 0} → Limits → ℕ → Matrix T → Result Unit Refusal
+more_cols_answer l n m = more_rows_answer l n (turned m)
+
 -- line i of `count` goes out into n cells of memory
 abbrev pub remove_answer : ℕ → ℕ → ℕ → ℕ → Result Unit Refusal
 remove_answer i n count across =
@@ -65,6 +79,10 @@ delete_col_answer i m = delete_row_answer i (turned m)
 
 abbrev pub put_answer : {T : Type 0} → ℕ → ℕ → Matrix T → Result Unit Refusal
 put_answer r c m = refused 6 (nat_le m.rows r || nat_le m.cols c) accepted
+
+-- two cells change places: what a put of the first would answer, and then of the second
+abbrev pub swap_answer : {T : Type 0} → ℕ × ℕ → ℕ × ℕ → Matrix T → Result Unit Refusal
+swap_answer a b m = refused 6 (nat_le m.rows a.0 || nat_le m.cols a.1) (put_answer b.0 b.1 m)
 
 -- A grid is made of the n flat cells at the start of a memory of N cells.
 abbrev pub from_vec_answer : ℕ → ℕ → ℕ → Result Unit Refusal

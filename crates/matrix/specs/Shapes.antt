@@ -45,6 +45,10 @@ inserted_form n f = record { rows = f.rows + 1; cols = n; order = f.order }
 abbrev pub deleted_form : Form → Form
 deleted_form f = record { rows = f.rows - 1; cols = left_across f.rows f.cols; order = f.order }
 
+-- the form when n rows more have come
+abbrev pub spaced_form : ℕ → Form → Form
+spaced_form n f = record { rows = f.rows + n; cols = f.cols; order = f.order }
+
 -- the form where n cells are enough for it, else the empty one
 abbrev pub fitted : ℕ → Form → Form
 fitted n f = cond (nat_le (f.rows * f.cols) n) f (vacant f.order)

@@ -1,7 +1,7 @@
 // Which refusal a line meets, and what a line that goes leaves: what every board checks, on numbers alone.
 ghost use Rattle.std.specs.Prelude.{◌≡◌};
 ghost use Rattle.matrix.specs.Matrix.{left_across};
-ghost use Rattle.matrix.specs.Rules.{insert_answer, remove_answer};
+ghost use Rattle.matrix.specs.Rules.{insert_answer, more_answer, remove_answer};
 
 use crate::limits::Limits;
 use cells::refusal::Refusal;
@@ -30,6 +30,22 @@ pub fn insert_check(
         return Err(Refusal::Side);
     }
     if limits.most / n <= count {
+        return Err(Refusal::Full);
+    }
+    Ok(())
+}
+
+// n lines of one cell are added to `count` lines of `across` cells.
+pub fn more_check(limits: Limits, n: usize, count: usize, across: usize) -> Result<(), Refusal>
+    ensures answer { result ≡ more_answer limits n count across }
+{
+    if n == 0 || across == 0 {
+        return Ok(());
+    }
+    if limits.side < count || limits.side - count < n {
+        return Err(Refusal::Side);
+    }
+    if limits.most / across < count + n {
         return Err(Refusal::Full);
     }
     Ok(())

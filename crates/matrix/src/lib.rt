@@ -5,4 +5,5 @@ pub mod axis;
 pub mod checks;
 pub mod laws;
 pub mod limits;
+pub mod making;
 pub mod shape;

@@ -1,7 +1,7 @@
 // Reads calls of the original with its answers from standard input, makes them here, and prints where the two differ.
 #![tactic(auto)]
 
-use crate::entry::Entry;
+use crate::entry::{Cell, Entry};
 use matrix::limits::CELLS;
 use std::alloc::Global;
 use std::io;
@@ -26,7 +26,7 @@ fn run(rt: &HostRuntime) -> anyhow::Result<()> {
     let text = io::read_to_string(heap, rt.stdin())?;
     let all = entries(heap, text.as_str())?;
     // Each grid stands over this memory.
-    let mut memory = vec![in heap; 0u32; CELLS]?;
+    let mut memory = vec![in heap; Cell(0); CELLS]?;
     let tally = replay::replayed(heap, memory.as_mut_slice(), all.as_slice())?;
     for d in tally.differ.iter() {
         println!(rt; "differs: {} in {}", d.number, d.part)?;

@@ -12,18 +12,28 @@ pub enum Name {
     Remove(Axis),
     Pop(Axis),
     Delete(Axis),
+    Expand(Axis),
+    Prepend(Axis),
     Flip(Axis),
     Transpose,
     RotateLeft,
     RotateRight,
     RotateHalf,
     Put,
+    Swap,
+    Fill,
+    Clear,
     Get,
+    Same,
     IsEmpty,
     Size,
+    Iter(Axis),
+    IterLines(Axis),
+    IndexedIter,
 }
 
-// The word of what the original answered; the cells of a line, a cell or the two sides of a size stand beside it.
+// The word of what the original answered; the cells of a line or of lines, a cell, places or the two sides of a size stand beside
+// it.
 // They are words alone, and no answers with their values in them, since the numbers of an answer can stand before its word.
 #[derive(Clone, Copy)]
 pub enum Said {
@@ -36,6 +46,8 @@ pub enum Said {
     Line,
     Cell,
     Size,
+    Lines,
+    Places,
 }
 
 // A word that names none.
@@ -60,6 +72,10 @@ impl FromStr for Name {
             "pop-col" => Ok(Name::Pop(Axis::Col)),
             "delete-row" => Ok(Name::Delete(Axis::Row)),
             "delete-col" => Ok(Name::Delete(Axis::Col)),
+            "expand-rows" => Ok(Name::Expand(Axis::Row)),
+            "expand-cols" => Ok(Name::Expand(Axis::Col)),
+            "prepend-rows" => Ok(Name::Prepend(Axis::Row)),
+            "prepend-cols" => Ok(Name::Prepend(Axis::Col)),
             "flip-rows" => Ok(Name::Flip(Axis::Row)),
             "flip-cols" => Ok(Name::Flip(Axis::Col)),
             "transpose" => Ok(Name::Transpose),
@@ -67,9 +83,18 @@ impl FromStr for Name {
             "rotate-right" => Ok(Name::RotateRight),
             "rotate-half" => Ok(Name::RotateHalf),
             "put" => Ok(Name::Put),
+            "swap" => Ok(Name::Swap),
+            "fill" => Ok(Name::Fill),
+            "clear" => Ok(Name::Clear),
             "get" => Ok(Name::Get),
+            "same" => Ok(Name::Same),
             "is-empty" => Ok(Name::IsEmpty),
             "size" => Ok(Name::Size),
+            "iter-row" => Ok(Name::Iter(Axis::Row)),
+            "iter-col" => Ok(Name::Iter(Axis::Col)),
+            "iter-rows" => Ok(Name::IterLines(Axis::Row)),
+            "iter-cols" => Ok(Name::IterLines(Axis::Col)),
+            "indexed-iter" => Ok(Name::IndexedIter),
             _ => Err(NoName),
         }
     }
@@ -89,6 +114,8 @@ impl FromStr for Said {
             "line" => Ok(Said::Line),
             "cell" => Ok(Said::Cell),
             "size" => Ok(Said::Size),
+            "lines" => Ok(Said::Lines),
+            "places" => Ok(Said::Places),
             _ => Err(NoName),
         }
     }

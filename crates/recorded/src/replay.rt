@@ -1,16 +1,20 @@
 // Making the recorded calls on a grid, and comparing answers and grids with the original's.
-use crate::entry::{After, Answer, Call, Entry, Making, Panicked, Step};
+use crate::entry::{After, Answer, Call, Cell, Entry, Making, Panicked, Step};
 use cells::refusal::Refusal;
 use grid::grid::Grid;
-use grid::grid::making::{from_vec_check, new_check};
 use matrix::axis::Axis;
 use matrix::limits::SIDE;
+use matrix::making::{from_vec_check, new_check};
 use matrix::shape::Order;
 use std::alloc::{AllocError, Global};
 use std::fmt;
+use walks::index::indexed_iter;
+use walks::line::{LineWalk, iter_col, iter_row};
+use walks::lines::{End, LinesWalk, iter_cols, iter_rows};
+use walks::walk::{Walk, read};
 
-// What stands in the memory for a removed line before the call.
-const UNTOUCHED: u32 = u32::MAX;
+// What stands in the memory for a line before the call.
+const UNTOUCHED: Cell = Cell(u32::MAX);
 
 #[derive(Clone, Copy)]
 pub enum Part {
@@ -74,8 +78,8 @@ impl From<Result<(), Refusal>> for Answer {
     }
 }
 
-impl From<Option<u32>> for Answer {
-    fn from(cell: Option<u32>) -> Answer {
+impl From<Option<Cell>> for Answer {
+    fn from(cell: Option<Cell>) -> Answer {
         Answer::Cell(cell)
     }
 }
@@ -93,7 +97,7 @@ impl From<(usize, usize)> for Answer {
 }
 
 // Makes all the calls, each grid over the same memory.
-pub fn replayed(heap: Global, memory: &mut [u32], all: &[Entry]) -> Result<Tally, AllocError> {
+pub fn replayed(heap: Global, memory: &mut [Cell], all: &[Entry]) -> Result<Tally, AllocError> {
     let mut tally = Tally {
         calls: 0,
         differ: Vec::new(heap),
@@ -107,7 +111,7 @@ pub fn replayed(heap: Global, memory: &mut [u32], all: &[Entry]) -> Result<Tally
 // Makes the grid that the first entry begins, over the memory, and the calls on it. Calls before any grid are passed over.
 fn run_block(
     heap: Global,
-    memory: &mut [u32],
+    memory: &mut [Cell],
     block: &[Entry],
     tally: &mut Tally,
 ) -> Result<(), AllocError> {
@@ -136,15 +140,16 @@ fn run_block(
 
 fn may_make(memory: usize, making: &Making) -> Result<(), Refusal> {
     match making {
-        Making::Init(rows, cols, _) => new_check(memory, *rows, *cols),
+        Making::New(rows, cols) | Making::Init(rows, cols, _) => new_check(memory, *rows, *cols),
         Making::FromVec(cols, cells) => from_vec_check(memory, cells.len(), *cols),
     }
 }
 
 // The grid of the call.
 // kept: cells are laid as in tests of grids, which lay bytes: a function of both would stand in `grid`, which lays no cells itself
-fn make<'a>(memory: &'a mut [u32], order: Order, making: &Making) -> Grid<'a, u32> {
+fn make<'a>(memory: &'a mut [Cell], order: Order, making: &Making) -> Grid<'a, Cell> {
     match making {
+        Making::New(rows, cols) => Grid::new_with_order(memory, *rows, *cols, order),
         Making::Init(rows, cols, x) => Grid::init_with_order(memory, *rows, *cols, order, *x),
         Making::FromVec(cols, cells) => {
             let n = cells.len();
@@ -159,7 +164,7 @@ fn make<'a>(memory: &'a mut [u32], order: Order, making: &Making) -> Grid<'a, u3
 // Makes the call, and says what it answered.
 // kept: rows and columns apart, since what is compared are the calls that bear the original's names; one along an axis would
 // leave them untried
-fn made(heap: Global, grid: &mut Grid<'_, u32>, call: &Call) -> Result<Answer, AllocError> {
+fn made(heap: Global, grid: &mut Grid<'_, Cell>, call: &Call) -> Result<Answer, AllocError> {
     let (rows, cols) = grid.size();
     Ok(match call {
         Call::Insert(Axis::Row, i, line) => grid.insert_row(*i, line.as_slice()).into(),
@@ -172,6 +177,10 @@ fn made(heap: Global, grid: &mut Grid<'_, u32>, call: &Call) -> Result<Answer, A
         Call::Pop(Axis::Col) => taken(heap, rows, |line| grid.pop_col(line))?,
         Call::Delete(Axis::Row, i) => grid.delete_row(*i).into(),
         Call::Delete(Axis::Col, i) => grid.delete_col(*i).into(),
+        Call::Expand(Axis::Row, n) => grid.expand_rows(*n).into(),
+        Call::Expand(Axis::Col, n) => grid.expand_cols(*n).into(),
+        Call::Prepend(Axis::Row, n) => grid.prepend_rows(*n).into(),
+        Call::Prepend(Axis::Col, n) => grid.prepend_cols(*n).into(),
         Call::Flip(Axis::Row) => grid.flip_rows().into(),
         Call::Flip(Axis::Col) => grid.flip_cols().into(),
         Call::Transpose => grid.transpose().into(),
@@ -179,14 +188,42 @@ fn made(heap: Global, grid: &mut Grid<'_, u32>, call: &Call) -> Result<Answer, A
         Call::RotateRight => grid.rotate_right().into(),
         Call::RotateHalf => grid.rotate_half().into(),
         Call::Put(r, c, x) => grid.put(*r, *c, *x).into(),
+        Call::Swap(a, b) => grid.swap(*a, *b).into(),
+        Call::Fill(x) => grid.fill(*x).into(),
+        Call::Clear => grid.clear().into(),
         Call::Get(r, c) => grid.get(*r, *c).into(),
+        Call::Same(order, cols, cells) => equal(
+            heap,
+            grid,
+            *order,
+            *cols,
+            cells.as_slice(),
+        )?.into(),
         Call::IsEmpty => grid.is_empty().into(),
         Call::Size => grid.size().into(),
+        Call::Iter(Axis::Row, i) => walked(heap, grid, iter_row(grid, *i))?,
+        Call::Iter(Axis::Col, i) => walked(heap, grid, iter_col(grid, *i))?,
+        Call::IterLines(Axis::Row, ends) => lines(heap, grid, iter_rows(grid), ends.as_slice())?,
+        Call::IterLines(Axis::Col, ends) => lines(heap, grid, iter_cols(grid), ends.as_slice())?,
+        Call::IndexedIter => places(heap, grid)?,
     })
 }
 
+// Whether a grid of these cells is equal; it stands over memory of its own.
+fn equal(
+    heap: Global,
+    grid: &Grid<'_, Cell>,
+    order: Order,
+    cols: usize,
+    cells: &[Cell],
+) -> Result<bool, AllocError> {
+    let mut memory = Vec::from_slice(heap, cells)?;
+    let other = Grid::from_vec_with_order(memory.as_mut_slice(), cells.len(), cols, order);
+    Ok(grid.same(&other))
+}
+
 // The line that a call hands out, of that length, or none where it refuses.
-fn taken<F: FnOnce(&mut [u32]) -> Result<(), Refusal>>(
+fn taken<F: FnOnce(&mut [Cell]) -> Result<(), Refusal>>(
     heap: Global,
     len: usize,
     call: F,
@@ -206,8 +243,60 @@ fn taken<F: FnOnce(&mut [u32]) -> Result<(), Refusal>>(
     }
 }
 
+// The cells of the line that a walk goes along, or the refusal of the line.
+fn walked(
+    heap: Global,
+    grid: &Grid<'_, Cell>,
+    walk: Result<LineWalk, Refusal>,
+) -> Result<Answer, AllocError> {
+    match walk {
+        Ok(walk) => Ok(Answer::Line(Some(line(heap, grid, walk)?))),
+        Err(_) => Ok(Answer::Done(Err(Panicked))),
+    }
+}
+
+// All that a walk along a line gives.
+fn line(heap: Global, grid: &Grid<'_, Cell>, mut walk: LineWalk) -> Result<Vec<Cell>, AllocError> {
+    let mut memory = [UNTOUCHED; SIDE];
+    let n = read(&mut walk, grid, &mut memory);
+    let (line, _) = memory.split_at(n.min(SIDE));
+    Vec::from_slice(heap, line)
+}
+
+// The line that comes from each end.
+fn lines(
+    heap: Global,
+    grid: &Grid<'_, Cell>,
+    mut walk: LinesWalk,
+    ends: &[End],
+) -> Result<Answer, AllocError> {
+    let mut all = Vec::new(heap);
+    for end in ends {
+        let next = match end {
+            End::Front => walk.next(grid),
+            End::Back => walk.next_back(grid),
+        };
+        all.push(match next {
+            Some(walk) => Some(line(heap, grid, walk)?),
+            None => None,
+        })?;
+    }
+    Ok(Answer::Lines(all))
+}
+
+// All cells with their places, where there is room for one more than there are.
+fn places(heap: Global, grid: &Grid<'_, Cell>) -> Result<Answer, AllocError> {
+    let (rows, cols) = grid.size();
+    let room = rows.saturating_mul(cols).saturating_add(1);
+    let mut all = vec![in heap; ((0, 0), UNTOUCHED); room]?;
+    let mut walk = indexed_iter(grid);
+    let n = read(&mut walk, grid, all.as_mut_slice());
+    all.truncate(n);
+    Ok(Answer::Places(all))
+}
+
 // Whether and in what the call's answer or the grid after it differs from the original's.
-fn compared(grid: &Grid<'_, u32>, answer: &Answer, e: &Entry) -> Option<Part> {
+fn compared(grid: &Grid<'_, Cell>, answer: &Answer, e: &Entry) -> Option<Part> {
     if *answer != e.answer {
         Some(Part::Answer)
     } else if !stands(grid, &e.after) {
@@ -218,7 +307,7 @@ fn compared(grid: &Grid<'_, u32>, answer: &Answer, e: &Entry) -> Option<Part> {
 }
 
 // Whether the grid has the order, the size and the cells that the original's has after the call.
-fn stands(grid: &Grid<'_, u32>, after: &After) -> bool {
+fn stands(grid: &Grid<'_, Cell>, after: &After) -> bool {
     if grid.order() != after.order || grid.size() != (after.rows, after.cols) {
         return false;
     }

@@ -1,4 +1,3 @@
 mod Whole
-mod Rows
 mod Kept
 mod Planned

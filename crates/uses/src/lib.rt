@@ -2,5 +2,6 @@
 #![tactic(auto)]
 
 pub mod lists;
+pub mod trips;
 pub mod turns;
 pub mod undo;

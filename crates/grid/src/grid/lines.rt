@@ -2,8 +2,8 @@
 // kept: `stays` and `kept` stand on each call, since they speak of a grid before and after it, and no invariant does.
 ghost use Rattle.std.specs.Prelude.{◌≡◌, ℕ, ◌-◌, is_ok, if◌then◌else◌};
 ghost use Rattle.cells.specs.Refusals.{answered, Kept};
-ghost use Rattle.matrix.specs.Matrix.{Matrix, put_cell, insert_row, insert_col, remove_row, remove_col, row, col, over};
-ghost use Rattle.matrix.specs.Rules.{insert_row_answer, insert_col_answer, remove_row_answer, remove_col_answer, delete_row_answer, delete_col_answer, put_answer};
+ghost use Rattle.matrix.specs.Matrix.{Matrix, put_cell, swap_cells, insert_row, insert_col, remove_row, remove_col, row, col, over};
+ghost use Rattle.matrix.specs.Rules.{insert_row_answer, insert_col_answer, remove_row_answer, remove_col_answer, delete_row_answer, delete_col_answer, put_answer, swap_answer};
 ghost use Rattle.matrix.specs.Axes.{along, inserted, removed, line_of, insert_along, remove_along, delete_along};
 ghost use Rattle.grid.specs.Grids.{matrix, limits, stored, Stays};
 
@@ -22,6 +22,17 @@ impl<'a, T: Copy> Grid<'a, T> {
     {
         let shape = self.shape;
         calls::put(self.cells, shape, r, c, x)
+    }
+
+    // The cells at two places change places.
+    pub fn swap(&mut self, a: (usize, usize), b: (usize, usize)) -> Result<(), Refusal>
+        ensures answer { result ≡ swap_answer a b (matrix self.old) }
+        ensures effect { matrix self.new ≡ answered result (swap_cells a b (matrix self.old)) (matrix self.old) }
+        ensures stays { Stays self.old self.new }
+        ensures kept { Kept result (stored self.old) (stored self.new) }
+    {
+        let shape = self.shape;
+        calls::swap(self.cells, shape, a, b)
     }
 
     // The line becomes line i along the axis; later lines move by one.

@@ -1,5 +1,6 @@
 // The word for each order, as lists of calls have it.
-ghost use Rattle.matrix.specs.Orders.{OrderNamed};
+ghost use Rattle.matrix.specs.Words.{Named};
+ghost use Rattle.matrix.specs.Orders.{order_word};
 
 use crate::shape::Order;
 use std::str::FromStr;
@@ -11,7 +12,7 @@ pub struct NoOrder;
 impl FromStr for Order {
     type Err = NoOrder;
 
-    ghost from_str_gives = { OrderNamed };
+    ghost from_str_gives = { Named order_word };
 
     fn from_str(word: &str) -> Result<Order, NoOrder> {
         match word {

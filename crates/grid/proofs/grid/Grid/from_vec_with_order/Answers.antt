@@ -1,6 +1,6 @@
 use Rattle.std.proofs.Common.{ap, ◌∙◌}
 use Rattle.matrix.specs.Shapes.{held}
-use Rattle.grid.proofs.Makes.{made_vec, limits_taken, vec_order}
+use Rattle.matrix.proofs.Makes.{made_vec, limits_taken, vec_order}
 use Rattle.grid.proofs.grid.Grid.from_vec_with_order.Goals as goal
 
 pub returns : goal.returns

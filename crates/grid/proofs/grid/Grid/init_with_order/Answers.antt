@@ -2,7 +2,7 @@ use Rattle.std.proofs.Common.{length, ap, ◌∙◌, arith}
 use Rattle.matrix.specs.Matrix.{filled}
 use Rattle.matrix.specs.Rules.{grid_limits}
 use Rattle.matrix.specs.Shapes.{held}
-use Rattle.grid.proofs.Makes.{made_new, limits_taken, new_order}
+use Rattle.matrix.proofs.Makes.{made_new, limits_taken, new_order}
 use Rattle.grid.proofs.grid.Grid.init_with_order.Goals as goal
 
 pub returns : goal.returns

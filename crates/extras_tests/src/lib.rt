@@ -1,0 +1,7 @@
+// Worked cases of looks, and of grids mapped.
+#![tactic(auto)]
+
+#[cfg(test)]
+mod looked;
+#[cfg(test)]
+mod mapped;

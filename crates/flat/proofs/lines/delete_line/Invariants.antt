@@ -1,5 +1,0 @@
-use Rattle.flat.proofs.Deletes.{Closed}
-use Rattle.flat.proofs.lines.delete_line.Given as goal
-
-abbrev pub invariant-loop-c : goal.invariant-loop-c
-invariant-loop-c g l = Closed l.initial.s l.s l.rows l.i l.c

@@ -1,5 +1,0 @@
-use Rattle.flat.proofs.Inserts.{Opened}
-use Rattle.flat.proofs.lines.insert_line.Given as goal
-
-abbrev pub invariant-loop-c : goal.invariant-loop-c
-invariant-loop-c g l = Opened l.initial.s l.s l.line l.cols l.rows l.i l.c

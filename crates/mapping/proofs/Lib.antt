@@ -1,0 +1,3 @@
+pub mod Passes
+pub mod Places
+pub mod Made

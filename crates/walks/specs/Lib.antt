@@ -1,0 +1,3 @@
+pub mod Walks
+pub mod Indexed
+pub mod Ends
