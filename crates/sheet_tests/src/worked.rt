@@ -155,6 +155,12 @@ const SECOND: [Penalty; 3] = [Penalty(4), Penalty(5), Penalty(6)];
 
 const BLANK: [Penalty; 4] = [Penalty(-1); 4];
 
+// Both rows, on a board without one.
+fn lay_two(rt: &impl Abort, board: &mut impl Board<Cell = Penalty>) {
+    assert_eq!(rt; board.insert(Axis::Row, 0, &FIRST), Ok(()));
+    assert_eq!(rt; board.insert(Axis::Row, 1, &SECOND), Ok(()));
+}
+
 // A keep of four cells: a removal that finds too little room is refused, and so is a put that finds none, and both leave all as
 // it was. A step back makes room again.
 #[derive(Clone, Copy)]
@@ -168,8 +174,7 @@ impl SheetCase for KeepFull {
         keep: K,
     ) {
         let mut memory = BLANK;
-        assert_eq!(rt; board.insert(Axis::Row, 0, &FIRST), Ok(()));
-        assert_eq!(rt; board.insert(Axis::Row, 1, &SECOND), Ok(()));
+        lay_two(rt, &mut board);
         let mut sheet = OpenSheet::new(board, keep);
         assert_eq!(rt; sheet.put(0, 0, Penalty(7)), Ok(()));
         assert_eq!(rt; sheet.put(0, 1, Penalty(8)), Ok(()));
@@ -202,8 +207,7 @@ impl SheetCase for Short {
         keep: K,
     ) {
         let mut memory = BLANK;
-        assert_eq!(rt; board.insert(Axis::Row, 0, &FIRST), Ok(()));
-        assert_eq!(rt; board.insert(Axis::Row, 1, &SECOND), Ok(()));
+        lay_two(rt, &mut board);
         let mut sheet = OpenSheet::new(board, keep);
         assert_eq!(rt;
             sheet.remove(Axis::Row, 0, &mut memory[..2]),
