@@ -48,6 +48,7 @@ pub enum Call {
     IterRows(Vec<End>),
     IterCols(Vec<End>),
     IndexedIter,
+    MapRef,
 }
 use Call::*;
 
@@ -107,6 +108,7 @@ impl fmt::Display for Call {
             IterRows(ends) => write!(f, "iter-rows{}", word(ends)),
             IterCols(ends) => write!(f, "iter-cols{}", word(ends)),
             IndexedIter => write!(f, "indexed-iter"),
+            MapRef => write!(f, "map-ref"),
         }
     }
 }
@@ -142,6 +144,10 @@ fn lines<'a, L: Iterator<Item = &'a u32>>(mut walk: impl DoubleEndedIterator<Ite
         text += &line.map_or(" -".into(), |line| format!(" |{}", walked(line)));
     }
     text
+}
+
+fn places(g: &Grid<u32>) -> String {
+    format!("places{}", g.indexed_iter().map(|((r, c), x)| format!(" {r} {c} {x}")).collect::<String>())
 }
 
 // Makes the call, and gives the answer as the list has it.
@@ -185,6 +191,7 @@ pub fn apply(g: &mut Grid<u32>, call: Call) -> String {
         IterCol(i) => format!("line{}", walked(g.iter_col(i))),
         IterRows(ends) => lines(g.iter_rows(), ends),
         IterCols(ends) => lines(g.iter_cols(), ends),
-        IndexedIter => format!("places{}", g.indexed_iter().map(|((r, c), x)| format!(" {r} {c} {x}")).collect::<String>()),
+        IndexedIter => places(g),
+        MapRef => places(&g.map_ref(|x| u32::MAX - x)),
     }
 }

@@ -131,14 +131,14 @@ impl Shape<'_> {
         }
     }
 
-    // Along every line, over the lines from the ends in every order until none has come twice, and over the cells.
+    // Along every line, over the lines from the ends in every order until none has come twice, over the cells, and the grid mapped.
     fn walks(&mut self) {
         let (rows, cols) = (self.rows, self.cols);
         self.each(indices(rows).map(IterRow));
         self.each(indices(cols).map(IterCol));
         self.each(words(rows + 2).map(IterRows));
         self.each(words(cols + 2).map(IterCols));
-        self.each([IterRows(vec![]), IterCols(vec![]), IndexedIter]);
+        self.each([IterRows(vec![]), IterCols(vec![]), IndexedIter, MapRef]);
     }
 }
 

@@ -14,6 +14,7 @@ const HEAD: &str = "\
 #   CALL ARGS : CELLS => ANSWER ; ORDER ROWS COLS ; FLAT
 # ARGS are an order, indices, sizes and a cell, as the call has them; ': CELLS' stands at the calls that take cells.
 # 'same' asks whether the grid is equal to the one that its order, its columns and its cells make.
+# 'map-ref' maps the grid by what a cell lacks of the largest number, and asks for the cells of what came.
 # 'iter-rows' and 'iter-cols' ask for a line at each letter of a word, f at the front and b at the back.
 # ANSWER is ok, panic, none, absent, true, false, 'line CELLS', 'cell X', 'size ROWS COLS', 'lines', then '| CELLS' for each line
 # that came and '-' where none did, or 'places', then ROW COL X for each cell in turn.
@@ -214,7 +215,7 @@ impl Recorder {
         let last = (rows - 1, cols - 1);
         self.calls(&[Swap((0, 0), last), Swap(last, last), Swap((0, cols - 1), (rows - 1, 0))]);
         self.calls(&[Swap((rows, 0), last), Swap((0, cols), last), Swap(last, (rows, 0)), Swap(last, (0, MAX)), Swap((MAX, MAX), (MAX, MAX))]);
-        self.calls(&[Fill(7), PushRow(vec![8; cols]), Fill(4294967295)]);
+        self.calls(&[Fill(7), PushRow(vec![8; cols]), Fill(4294967295), MapRef]);
         self.calls(&[Clear, Clear, Swap((0, 0), (0, 0)), Fill(9), Size, InsertCol(0, vec![1, 2]), Fill(3)]);
     }
 
@@ -229,7 +230,7 @@ impl Recorder {
                 self.calls(&[IterRows(ends.clone()), IterCols(ends)]);
             }
         }
-        self.call(IndexedIter);
+        self.calls(&[IndexedIter, MapRef]);
     }
 
     // A call drawn by lot. Most are in range; some indices and lengths are off by one.
@@ -239,7 +240,7 @@ impl Recorder {
         let (row_len, col_len) = (if rows == 0 { 3 } else { cols }, if cols == 0 { 3 } else { rows });
         let (row, col) = (self.cells(row_len + off), self.cells(col_len + off));
         let (i, j) = (self.below(rows + 1), self.below(cols + 1));
-        match self.below(32) {
+        match self.below(33) {
             0 => InsertRow(i, row),
             1 => InsertCol(j, col),
             2 => PushRow(row),
@@ -271,6 +272,7 @@ impl Recorder {
             28 => IterRows(self.ends(rows + off)),
             29 => IterCols(self.ends(cols + off)),
             30 => IndexedIter,
+            31 => MapRef,
             _ => Swap((i, j), (self.below(rows.max(1)), self.below(cols.max(1)))),
         }
     }

@@ -16,15 +16,6 @@ pub record Closed {T : Type 0} (xs ys : List T) (outer n at o : ℕ) : Type 0 wh
   pub moved : (a b : ℕ) → a < outer → b < n - 1 → a * (n - 1) + b < o * (n - 1) + at → slice_get ys (a * (n - 1) + b) ≡ slice_get xs (a * n + skipped at b)
   pub above : (k : ℕ) → o * (n - 1) + at ≤ k → slice_get ys k ≡ slice_get xs k
 
-pub closed_none : {T : Type 0} (xs : List T) (outer n at : ℕ) → at < n → Closed xs xs outer n at 0
-closed_none xs outer n at ha = record {
-  len = refl;
-  moved = λ a b ga gb h.
-      let first : a ≡ 0 = ⊎_elim (λ (i : 0 < a). absurd (omega (arith, line_ends 0 a (n - 1) i))) (λ (i : a ≤ 0). omega arith) (cases_lt 0 a) in
-      ap (slice_get xs) (let i : a * (n - 1) + b ≡ a * n + skipped at b = omega (arith, ap (λ j. j * (n - 1)) first, ap (λ j. j * n) first, skipped_below at b (omega (arith, ap (λ j. j * (n - 1)) first))) in i);
-  above = λ k h. refl;
-}
-
 -- the stretch between the cells of lines o and o + 1 that go moves down
 module _ {T : Type 0} (xs ys zs : List T) (outer n at o m : ℕ) (ha : at < n) (ho : o < outer) (whole : o + 1 < outer → m ≡ n - 1) (last : o + 1 ≡ outer → m ≡ n - 1 - at) (p : Closed xs ys outer n at o) (q : Copied ys zs ys (o * n + at + 1) (o * (n - 1) + at) m) where
   more : (o + 1) * (n - 1) ≡ o * (n - 1) + (n - 1)

@@ -1,12 +1,29 @@
 -- Lines turned round.
 use Rattle.std.proofs.Common.{◌≡◌, ℕ, ◌+◌, ◌-◌, ◌*◌, ◌<◌, ◌≤◌, List, length, sym, refl, ap, ◌∙◌, ⊎_elim, add-mul, arith}
 use Rattle.std.specs.List.{slice_get}
-use Rattle.std.proofs.lemmas.Bool.{cases_eq}
+use Rattle.std.proofs.lemmas.Bool.{cases_eq, cases_lt}
 use Rattle.matrix.specs.Matrix.{Matrix, rotate_half}
 use Rattle.matrix.specs.Shapes.{rowwise}
 use Rattle.matrix.proofs.Products.{line_more, line_ends}
 use Rattle.matrix.proofs.Whole.{inside_in, rowwise_is, whole_rotate_half}
-use Rattle.flat.specs.Moves.{Reversed}
+use Rattle.flat.specs.Moves.{Facing, Reversed}
+
+-- m more cells change places, further in
+pub facing_more : {X : Type 0} (xs ys zs : List X) (p q n r m o : ℕ) → r + m ≡ q → n + m ≡ o → p + o ≤ r → Facing xs ys p q n → Facing ys zs (p + n) r m → Facing xs zs p r o
+facing_more xs ys zs p q n r m o e s h v w = record {
+  len = w.len ∙ v.len;
+  first = λ k l. ⊎_elim
+      (λ (b : k < n). w.below (p + k) (omega arith) ∙ v.first k b ∙ ap (slice_get xs) (omega arith))
+      (λ (b : n ≤ k). ap (slice_get zs) (omega arith) ∙ w.first (k - n) (omega arith) ∙ v.amid (r + (m - 1 - (k - n))) (omega arith) (omega arith) ∙ ap (slice_get xs) (omega arith))
+      (cases_lt k n);
+  second = λ k l. ⊎_elim
+      (λ (b : k < m). w.second k b ∙ v.amid (p + n + (m - 1 - k)) (omega arith) (omega arith) ∙ ap (slice_get xs) (omega arith))
+      (λ (b : m ≤ k). w.above (r + k) (omega arith) ∙ ap (slice_get ys) (omega arith) ∙ v.second (k - m) (omega arith) ∙ ap (slice_get xs) (omega arith))
+      (cases_lt k m);
+  below = λ k l. w.below k (omega arith) ∙ v.below k l;
+  amid = λ k l b. w.amid k (omega arith) b ∙ v.amid k (omega arith) (omega arith);
+  above = λ k l. w.above k (omega arith) ∙ v.above k (omega arith);
+}
 
 -- the first o lines and the last o are exchanged
 pub record Flipped {T : Type 0} (xs ys : List T) (outer n o : ℕ) : Type 0 where

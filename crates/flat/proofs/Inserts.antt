@@ -16,14 +16,6 @@ pub record Opened {T : Type 0} (xs ys line : List T) (outer n at o : ℕ) : Type
   pub below : (k : ℕ) → k < o * (n + 1) + at → slice_get ys k ≡ slice_get xs k
   pub moved : (a b : ℕ) → a < outer → b < n + 1 → o * (n + 1) + at ≤ a * (n + 1) + b → slice_get ys (a * (n + 1) + b) ≡ spliced at (slice_get line a) (λ k. slice_get xs (a * n + k)) b
 
-pub opened_none : {T : Type 0} (xs line : List T) (outer n at : ℕ) → Opened xs xs line outer n at outer
-opened_none xs line outer n at = record {
-  len = refl;
-  left = omega arith;
-  below = λ k h. refl;
-  moved = λ a b ha hb h. absurd (omega (arith, line_ends a outer (n + 1) ha));
-}
-
 -- the stretch between the new cells of lines o and o + 1 moves up, and line o's new cell goes before it
 module _ {T : Type 0} (xs ys zs line : List T) (outer n at o m : ℕ) (x : T) (ha : at ≤ n) (ho : o < outer) (fits : outer * (n + 1) ≤ length xs) (whole : o + 1 < outer → m ≡ n) (last : o + 1 ≡ outer → m ≡ n - at) (new : slice_get line o ≡ Some x) (p : Opened xs ys line outer n at (o + 1)) (q : Copied ys zs ys (o * n + at) (o * (n + 1) + at + 1) m) where
   abbrev start : ℕ

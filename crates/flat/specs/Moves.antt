@@ -26,6 +26,15 @@ pub record Reversed {X : Type 0} (xs ys : List X) (p n : ℕ) : Type 0 where
   pub below : (k : ℕ) → k < p → slice_get ys k ≡ slice_get xs k
   pub above : (k : ℕ) → p + n ≤ k → slice_get ys k ≡ slice_get xs k
 
+-- the n cells at p and those at q, further on, have changed places, the first with the last
+pub record Facing {X : Type 0} (xs ys : List X) (p q n : ℕ) : Type 0 where
+  pub len : length ys ≡ length xs
+  pub first : (k : ℕ) → k < n → slice_get ys (p + k) ≡ slice_get xs (q + (n - 1 - k))
+  pub second : (k : ℕ) → k < n → slice_get ys (q + k) ≡ slice_get xs (p + (n - 1 - k))
+  pub below : (k : ℕ) → k < p → slice_get ys k ≡ slice_get xs k
+  pub amid : (k : ℕ) → p + n ≤ k → k < q → slice_get ys k ≡ slice_get xs k
+  pub above : (k : ℕ) → q + n ≤ k → slice_get ys k ≡ slice_get xs k
+
 -- x in the n cells at p
 pub record Filled {X : Type 0} (xs ys : List X) (p n : ℕ) (x : X) : Type 0 where
   pub len : length ys ≡ length xs

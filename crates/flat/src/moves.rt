@@ -1,11 +1,13 @@
 // Moves of a stretch of flat cells.
 ghost use Rattle.std.specs.Prelude.{◌≡◌, ℕ, ◌+◌, ◌<◌, ◌≤◌, length, slice_set};
-ghost use Rattle.flat.specs.Moves.{Copied, Parted, Exchanged, Reversed, Filled};
+ghost use Rattle.flat.specs.Moves.{Copied, Parted, Exchanged, Reversed, Facing, Filled};
 
 use matrix::limits::SIDE;
 
 // How many cells a long move takes at a time, where as many are there.
 const BULK: usize = 4096;
+
+const LARGE: usize = 16384;
 
 // Moves n cells within s; the two stretches may overlap.
 // kept: `from` and `to` are places in one slice, since two slices lent from it could not overlap
@@ -15,7 +17,9 @@ pub(crate) fn slide<T: Copy>(s: &mut [T], from: usize, to: usize, n: usize)
     ensures effect { Copied s.old s.new s.old from to n }
 {
     // kept: an array of any kind of cell is known to fit into memory only where as many cells are there
-    if BULK <= s.len() {
+    if LARGE <= s.len() {
+        stride::<T, LARGE>(s, from, to, n);
+    } else if BULK <= s.len() {
         stride::<T, BULK>(s, from, to, n);
     } else if SIDE <= s.len() {
         stride::<T, SIDE>(s, from, to, n);
@@ -115,11 +119,41 @@ pub(crate) fn exchange<T: Copy>(s: &mut [T], p: usize, q: usize, n: usize)
 }
 
 // Turns round the n cells at p.
+// kept: eight at a time from either end: std's `reverse` takes twice as long for sixteen bytes, and a third longer for 64 cells of
+// eight bytes; sixteen at a time are slow where a line is short
 pub(crate) fn reverse<T: Copy>(s: &mut [T], p: usize, n: usize)
     requires room { p + n ≤ length s.old }
     ensures effect { Reversed s.old s.new p n }
 {
-    s[p..p + n].reverse();
+    let blocks = n / 16;
+    for k in 0..blocks {
+        face::<T, 8>(s, p + k * 8, p + n - (k + 1) * 8);
+    }
+    for k in blocks * 8..n / 2 {
+        face::<T, 1>(s, p + k, p + n - (k + 1));
+    }
+}
+
+// The N cells at p and those at q, further on, change places, the first with the last.
+// kept: by way of two arrays, so that all are read before one is written: only then does the compiler make wide moves of the loops
+fn face<T: Copy, const N: usize>(s: &mut [T], p: usize, q: usize)
+    requires some { 0 < N }
+    requires apart { p + N ≤ q }
+    requires room { q + N ≤ length s.old }
+    ensures effect { Facing s.old s.new p q N }
+{
+    let mut first = [s[p]; N];
+    let mut second = [s[q]; N];
+    for k in 0..N {
+        first[k] = s[p + k];
+        second[k] = s[q + k];
+    }
+    for k in 0..N {
+        s[p + k] = second[N - 1 - k];
+    }
+    for k in 0..N {
+        s[q + k] = first[N - 1 - k];
+    }
 }
 
 // Moves the n cells at `from` up to `to`, g places apart at `at`, where x goes.

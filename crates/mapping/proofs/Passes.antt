@@ -14,9 +14,6 @@ pub record Passed {A B : Type 0} (f : A → B) (xs : List A) (old ys : List B) (
   pub len : length ys ≡ length old
   pub done : (k : ℕ) → k < n → slice_get ys k ≡ option_map f (slice_get xs k)
 
-pub passed_none : {A B : Type 0} (f : A → B) (xs : List A) (ys : List B) (n : ℕ) → n ≡ 0 → Passed f xs ys ys n
-passed_none f xs ys n e = record { len = refl; done = λ k h. absurd (omega arith) }
-
 -- one cell more
 pub passed_more : {A B : Type 0} (f : A → B) (xs : List A) (old ys zs : List B) (n m : ℕ) (x : A) (y : B) → Passed f xs old ys n → n < length old → slice_get xs n ≡ Some x → y ≡ f x → zs ≡ set ys n y → m ≡ n + 1 → Passed f xs old zs m
 passed_more {A} {B} f xs old ys zs n m x y p l e a is em = record {

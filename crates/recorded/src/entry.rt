@@ -58,6 +58,8 @@ pub enum Call {
     // A line from each of these ends, in order.
     IterLines(Axis, Vec<End>),
     IndexedIter,
+    // The grid mapped, and all its cells with their places.
+    MapRef,
 }
 
 #[derive(Drop)]

@@ -30,6 +30,7 @@ pub enum Name {
     Iter(Axis),
     IterLines(Axis),
     IndexedIter,
+    MapRef,
 }
 
 // The word of what the original answered; the cells of a line or of lines, a cell, places or the two sides of a size stand beside
@@ -95,6 +96,7 @@ impl FromStr for Name {
             "iter-rows" => Ok(Name::IterLines(Axis::Row)),
             "iter-cols" => Ok(Name::IterLines(Axis::Col)),
             "indexed-iter" => Ok(Name::IndexedIter),
+            "map-ref" => Ok(Name::MapRef),
             _ => Err(NoName),
         }
     }

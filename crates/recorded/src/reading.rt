@@ -188,6 +188,7 @@ fn step(name: Name, order: Order, numbers: &[usize], line: Vec<Cell>, ends: Vec<
         Name::Iter(axis) => Step::Call(Call::Iter(axis, i)),
         Name::IterLines(axis) => Step::Call(Call::IterLines(axis, ends)),
         Name::IndexedIter => Step::Call(Call::IndexedIter),
+        Name::MapRef => Step::Call(Call::MapRef),
     }
 }
 

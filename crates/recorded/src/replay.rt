@@ -1,7 +1,11 @@
 // Making the recorded calls on a grid, and comparing answers and grids with the original's.
+ghost use Rattle.std.specs.Prelude.{◌-◌};
+
 use crate::entry::{After, Answer, Call, Cell, Entry, Making, Panicked, Step};
 use cells::refusal::Refusal;
 use grid::grid::Grid;
+use mapping::map::map_ref;
+use mapping::rule::CellRule;
 use matrix::axis::Axis;
 use matrix::limits::SIDE;
 use matrix::making::{from_vec_check, new_check};
@@ -35,6 +39,22 @@ pub struct Difference {
 pub struct Tally {
     pub calls: usize,
     pub differ: Vec<Difference>,
+}
+
+// The rule by which the recorder maps: what the cell lacks of the largest number.
+#[derive(Clone, Copy)]
+struct Lacking;
+
+impl CellRule for Lacking {
+    type From = Cell;
+
+    type To = Cell;
+
+    ghost rule = { λ x. record { 0 = 4294967295 - x.0 } };
+
+    fn answer(&self, x: Cell) -> Cell {
+        Cell(u32::MAX - x.0)
+    }
 }
 
 impl fmt::Display for Part {
@@ -206,6 +226,7 @@ fn made(heap: Global, grid: &mut Grid<'_, Cell>, call: &Call) -> Result<Answer, 
         Call::IterLines(Axis::Row, ends) => lines(heap, grid, iter_rows(grid), ends.as_slice())?,
         Call::IterLines(Axis::Col, ends) => lines(heap, grid, iter_cols(grid), ends.as_slice())?,
         Call::IndexedIter => places(heap, grid)?,
+        Call::MapRef => mapped(heap, grid)?,
     })
 }
 
@@ -293,6 +314,14 @@ fn places(heap: Global, grid: &Grid<'_, Cell>) -> Result<Answer, AllocError> {
     let n = read(&mut walk, grid, all.as_mut_slice());
     all.truncate(n);
     Ok(Answer::Places(all))
+}
+
+// All cells of the grid mapped, with their places, over memory of its own that is exactly full.
+fn mapped(heap: Global, grid: &Grid<'_, Cell>) -> Result<Answer, AllocError> {
+    let (rows, cols) = grid.size();
+    let mut memory = vec![in heap; UNTOUCHED; rows.saturating_mul(cols)]?;
+    let mapped = map_ref(grid, &Lacking, memory.as_mut_slice());
+    places(heap, &mapped)
 }
 
 // Whether and in what the call's answer or the grid after it differs from the original's.

@@ -18,10 +18,7 @@ pub record Read {S X : Type 0} (moved : ℕ → S → S) (start now : S) (all le
   pub rest : left ≡ drop k all
   pub taken : memory ≡ over (take k all) before
 
-module _ {S X : Type 0} (moved : ℕ → S → S) (still : (w : S) → moved 0 w ≡ w) (further : (w : S) (j k : ℕ) → moved k (moved j w) ≡ moved (j + k) w) (start : S) (all before : List X) where
-  pub read_begun : Read moved start start all all before before 0
-  read_begun = record { state = sym (still start); enough = omega arith; rest = refl; taken = refl }
-
+module _ {S X : Type 0} (moved : ℕ → S → S) (further : (w : S) (j k : ℕ) → moved k (moved j w) ≡ moved (j + k) w) (start : S) (all before : List X) where
   module _ (k : ℕ) (now next : S) (left left' memory : List X) (p : Read moved start now all left before memory k) (step : next ≡ moved (min 1 (length left)) now) (on : left' ≡ drop 1 left) where
     rest_on : left' ≡ drop (k + 1) all
     rest_on = on ∙ ap (drop 1) p.rest ∙ drop-drop 1 k all
