@@ -1,5 +1,5 @@
 // What is written once over any board, on boards of each kind.
-use crate::expect::shows;
+use crate::expect::{equal, shows};
 use boards::board::Board;
 use boards::turned::TurnedBoard;
 use cells::refusal::Refusal;
@@ -14,73 +14,83 @@ use uses::undo::there_and_back;
 // On an empty board, then on 1 2 3 / 4 5 6, which stands afterwards.
 fn comes_back<B: Board<Cell = u8>>(rt: &impl Abort, b: &mut B) {
     let mut line = [0u8; 4];
-    assert_eq!(rt;
+    equal(
+        rt,
         there_and_back(b, Axis::Col, 0, &[1, 2, 3], &mut line),
-        Ok(())
+        Ok(()),
     );
-    assert_eq!(rt; b.size(), (0, 0));
-    assert_eq!(rt; line, [1, 2, 3, 0]);
-    assert_eq!(rt; b.insert(Axis::Row, 0, &[4, 5, 6]), Ok(()));
-    assert_eq!(rt; b.insert(Axis::Row, 0, &[1, 2, 3]), Ok(()));
-    assert_eq!(rt;
+    equal(rt, b.size(), (0, 0));
+    equal(rt, line, [1, 2, 3, 0]);
+    equal(rt, b.insert(Axis::Row, 0, &[4, 5, 6]), Ok(()));
+    equal(rt, b.insert(Axis::Row, 0, &[1, 2, 3]), Ok(()));
+    equal(
+        rt,
         there_and_back(b, Axis::Row, 1, &[7, 8, 9], &mut line),
-        Ok(())
+        Ok(()),
     );
-    assert_eq!(rt; line, [7, 8, 9, 0]);
-    assert_eq!(rt;
+    equal(rt, line, [7, 8, 9, 0]);
+    equal(
+        rt,
         there_and_back(b, Axis::Col, 3, &[10, 11], &mut line),
-        Ok(())
+        Ok(()),
     );
-    assert_eq!(rt; line, [10, 11, 9, 0]);
-    assert_eq!(rt;
+    equal(rt, line, [10, 11, 9, 0]);
+    equal(
+        rt,
         there_and_back(b, Axis::Row, 0, &[7, 8, 9], &mut line[0..2]),
-        Err(Refusal::Short)
+        Err(Refusal::Short),
     );
-    assert_eq!(rt;
+    equal(
+        rt,
         there_and_back(b, Axis::Col, 0, &[7, 8, 9], &mut line),
-        Err(Refusal::Length)
+        Err(Refusal::Length),
     );
-    assert_eq!(rt;
+    equal(
+        rt,
         there_and_back(b, Axis::Row, 3, &[7, 8, 9], &mut line),
-        Err(Refusal::Place)
+        Err(Refusal::Place),
     );
-    assert_eq!(rt; line, [10, 11, 9, 0]);
+    equal(rt, line, [10, 11, 9, 0]);
     shows(rt, b, 3, &[1, 2, 3, 4, 5, 6]);
 }
 
 // On 1 2 3 / 4 5 6: 7 8 goes in between, all is turned round along both axes, and all but 3 7 1 goes again.
 fn by_turns<B: Board<Cell = u8>>(rt: &impl Abort, b: &mut B) {
     let mut line = [0u8; 4];
-    assert_eq!(rt;
+    equal(
+        rt,
         insert_by_turns(b, Axis::Col, 0, &[7, 8, 9]),
-        Err(Refusal::Length)
+        Err(Refusal::Length),
     );
-    assert_eq!(rt;
+    equal(
+        rt,
         insert_by_turns(b, Axis::Row, 3, &[7, 8, 9]),
-        Err(Refusal::Place)
+        Err(Refusal::Place),
     );
-    assert_eq!(rt; insert_by_turns(b, Axis::Col, 1, &[7, 8]), Ok(()));
+    equal(rt, insert_by_turns(b, Axis::Col, 1, &[7, 8]), Ok(()));
     shows(rt, b, 4, &[1, 7, 2, 3, 4, 8, 5, 6]);
     flip_by_turns(b, Axis::Col);
     shows(rt, b, 4, &[3, 2, 7, 1, 6, 5, 8, 4]);
     flip_by_turns(b, Axis::Row);
     shows(rt, b, 4, &[6, 5, 8, 4, 3, 2, 7, 1]);
-    assert_eq!(rt; insert_by_turns(b, Axis::Row, 2, &[9, 9, 9, 9]), Ok(()));
-    assert_eq!(rt;
+    equal(rt, insert_by_turns(b, Axis::Row, 2, &[9, 9, 9, 9]), Ok(()));
+    equal(
+        rt,
         remove_by_turns(b, Axis::Row, 3, &mut line),
-        Err(Refusal::Place)
+        Err(Refusal::Place),
     );
-    assert_eq!(rt;
+    equal(
+        rt,
         remove_by_turns(b, Axis::Row, 2, &mut line[0..3]),
-        Err(Refusal::Short)
+        Err(Refusal::Short),
     );
-    assert_eq!(rt; line, [0, 0, 0, 0]);
-    assert_eq!(rt; remove_by_turns(b, Axis::Row, 2, &mut line), Ok(()));
-    assert_eq!(rt; line, [9, 9, 9, 9]);
-    assert_eq!(rt; remove_by_turns(b, Axis::Row, 0, &mut line), Ok(()));
-    assert_eq!(rt; line, [6, 5, 8, 4]);
-    assert_eq!(rt; remove_by_turns(b, Axis::Col, 1, &mut line), Ok(()));
-    assert_eq!(rt; line, [2, 5, 8, 4]);
+    equal(rt, line, [0, 0, 0, 0]);
+    equal(rt, remove_by_turns(b, Axis::Row, 2, &mut line), Ok(()));
+    equal(rt, line, [9, 9, 9, 9]);
+    equal(rt, remove_by_turns(b, Axis::Row, 0, &mut line), Ok(()));
+    equal(rt, line, [6, 5, 8, 4]);
+    equal(rt, remove_by_turns(b, Axis::Col, 1, &mut line), Ok(()));
+    equal(rt, line, [2, 5, 8, 4]);
     shows(rt, b, 3, &[3, 7, 1]);
 }
 
@@ -102,8 +112,8 @@ fn seat_board(rt: HostRuntime) {
     comes_back(&rt, &mut b);
     by_turns(&rt, &mut b);
     let cells = b.into_cells();
-    assert_eq!(rt; cells.len(), 17);
-    assert_eq!(rt; cells.get(16), Some(&99));
+    equal(&rt, cells.len(), 17);
+    equal(&rt, cells.get(16), Some(&99));
     for x in [3, 7, 1] {
         assert!(rt; cells.contains(&x));
     }

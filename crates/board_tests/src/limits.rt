@@ -1,4 +1,5 @@
 // A board that is full says so, and takes a line again when one has gone.
+use crate::expect::equal;
 use boards::board::Board;
 use boards::turned::TurnedBoard;
 use cells::refusal::Refusal;
@@ -17,21 +18,21 @@ fn refused_then_taken<B: Board<Cell = u8>>(
     why: Refusal,
 ) {
     let mut line = [0u8; 4];
-    assert_eq!(rt; b.insert(Axis::Row, 0, &[4, 5, 6]), Ok(()));
-    assert_eq!(rt; b.insert(Axis::Row, 0, &[1, 2, 3]), Ok(()));
+    equal(rt, b.insert(Axis::Row, 0, &[4, 5, 6]), Ok(()));
+    equal(rt, b.insert(Axis::Row, 0, &[1, 2, 3]), Ok(()));
     if let Some(more) = more {
-        assert_eq!(rt; b.insert(Axis::Row, 2, &more), Ok(()));
+        equal(rt, b.insert(Axis::Row, 2, &more), Ok(()));
     }
     let (rows, _) = b.size();
-    assert_eq!(rt; b.insert(Axis::Row, 0, &[7, 8, 9]), Err(why));
-    assert_eq!(rt; b.size(), (rows, 3));
-    assert_eq!(rt; b.get(0, 0), Some(1));
-    assert_eq!(rt; b.remove(Axis::Row, 0, &mut line), Ok(()));
-    assert_eq!(rt; line, [1, 2, 3, 0]);
-    assert_eq!(rt; b.insert(Axis::Row, 0, &[7, 8, 9]), Ok(()));
-    assert_eq!(rt; b.size(), (rows, 3));
-    assert_eq!(rt; b.get(0, 2), Some(9));
-    assert_eq!(rt; b.get(1, 0), Some(4));
+    equal(rt, b.insert(Axis::Row, 0, &[7, 8, 9]), Err(why));
+    equal(rt, b.size(), (rows, 3));
+    equal(rt, b.get(0, 0), Some(1));
+    equal(rt, b.remove(Axis::Row, 0, &mut line), Ok(()));
+    equal(rt, line, [1, 2, 3, 0]);
+    equal(rt, b.insert(Axis::Row, 0, &[7, 8, 9]), Ok(()));
+    equal(rt, b.size(), (rows, 3));
+    equal(rt, b.get(0, 2), Some(9));
+    equal(rt, b.get(1, 0), Some(4));
 }
 
 #[test]
@@ -70,16 +71,16 @@ fn seat_board_of_three(rt: HostRuntime) {
 fn seats_again_and_again(rt: HostRuntime) {
     let mut memory = [0u8; 4];
     let mut b = SeatBoard::new(&mut memory, 2);
-    assert_eq!(rt; b.insert(Axis::Row, 0, &[1, 2]), Ok(()));
+    equal(&rt, b.insert(Axis::Row, 0, &[1, 2]), Ok(()));
     // kept: the number itself goes in, as the cells of a row, and comes out.
     for k in 0u8..200 {
         let mut line = [0u8; 2];
-        assert_eq!(rt; b.insert(Axis::Row, 0, &[k, k]), Ok(()));
+        equal(&rt, b.insert(Axis::Row, 0, &[k, k]), Ok(()));
         b.flip(Axis::Row);
         b.transpose();
-        assert_eq!(rt; b.remove(Axis::Col, 0, &mut line), Ok(()));
+        equal(&rt, b.remove(Axis::Col, 0, &mut line), Ok(()));
         b.transpose();
-        assert_eq!(rt; b.size(), (1, 2));
-        assert_eq!(rt; b.get(0, 0), Some(k));
+        equal(&rt, b.size(), (1, 2));
+        equal(&rt, b.get(0, 0), Some(k));
     }
 }

@@ -1,4 +1,5 @@
 // One list of calls on two boards of other kinds.
+use crate::expect::equal;
 use boards::board::Board;
 use boards::turned::TurnedBoard;
 use cells::refusal::Refusal;
@@ -83,10 +84,10 @@ fn alike<A: Board<Cell = u8>, B: Board<Cell = u8>>(
         &mut answers,
         &mut other_answers,
     );
-    assert_eq!(rt; answers, answered(limits));
-    assert_eq!(rt; other_answers, answered(other_limits));
-    assert_eq!(rt; memory, [2, 6, 8, 4, 0]);
-    assert_eq!(rt; other_memory, [2, 6, 8, 4, 0]);
+    equal(rt, answers, answered(limits));
+    equal(rt, other_answers, answered(other_limits));
+    equal(rt, memory, [2, 6, 8, 4, 0]);
+    equal(rt, other_memory, [2, 6, 8, 4, 0]);
 }
 
 // The same beside a board turned.

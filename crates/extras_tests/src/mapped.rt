@@ -1,6 +1,7 @@
 // Grids mapped, by the two rules that there are and by some of the tests' own.
 ghost use Rattle.std.specs.Prelude.{◌+◌, ◌*◌, nat_lt};
 
+use crate::expect::equal;
 use cells::kinds::{Mark, Passage, Penalty};
 use cells::refusal::Refusal;
 use grid::grid::Grid;
@@ -60,46 +61,52 @@ fn documented(rt: HostRuntime) {
     let source = Grid::from_vec(&mut memory, 4, 2);
     let mut others = [7u32; 4];
     let (cells, n) = map_ref(&source, &Doubled, &mut others).into_vec();
-    assert_eq!(rt; n, 4);
+    equal(&rt, n, 4);
     assert!(rt; cells.starts_with(&[2, 4, 6, 8]));
     let mut others = [false; 4];
     let answers = map_ref(&source, &AboveTwo, &mut others);
-    assert_eq!(rt; answers.size(), (2, 2));
+    equal(&rt, answers.size(), (2, 2));
     let (cells, _) = answers.into_vec();
     assert!(rt; cells.starts_with(&[false, false, true, true]));
 }
 
 #[test]
 fn hundredths(rt: HostRuntime) {
-    assert_eq!(rt;
+    equal(
+        &rt,
         Hundredths.answer(Passage::Time(12345)),
-        Passage::Time(1234)
+        Passage::Time(1234),
     );
-    assert_eq!(rt; Hundredths.answer(Passage::Time(9)), Passage::Time(0));
-    assert_eq!(rt; Hundredths.answer(Passage::Time(10)), Passage::Time(1));
-    assert_eq!(rt;
+    equal(&rt, Hundredths.answer(Passage::Time(9)), Passage::Time(0));
+    equal(&rt, Hundredths.answer(Passage::Time(10)), Passage::Time(1));
+    equal(
+        &rt,
         Hundredths.answer(Passage::Time(u32::MAX)),
-        Passage::Time(429496729)
+        Passage::Time(429496729),
     );
-    assert_eq!(rt; Hundredths.answer(Passage::Blank), Passage::Blank);
+    equal(&rt, Hundredths.answer(Passage::Blank), Passage::Blank);
     for mark in [
         Mark::DidNotStart,
         Mark::DidNotFinish,
         Mark::Disqualified,
         Mark::OffCourse,
     ] {
-        assert_eq!(rt; Hundredths.answer(Passage::Mark(mark)), Passage::Mark(mark));
+        equal(
+            &rt,
+            Hundredths.answer(Passage::Mark(mark)),
+            Passage::Mark(mark),
+        );
     }
 }
 
 #[test]
 fn negated(rt: HostRuntime) {
-    assert_eq!(rt; Negated.answer(Penalty(0)), Penalty(0));
-    assert_eq!(rt; Negated.answer(Penalty(1500)), Penalty(-1500));
-    assert_eq!(rt; Negated.answer(Penalty(-1)), Penalty(1));
-    assert_eq!(rt; Negated.answer(Penalty(i32::MAX)), Penalty(-2147483647));
-    assert_eq!(rt; Negated.answer(Penalty(-2147483647)), Penalty(i32::MAX));
-    assert_eq!(rt; Negated.answer(Penalty(i32::MIN)), Penalty(i32::MAX));
+    equal(&rt, Negated.answer(Penalty(0)), Penalty(0));
+    equal(&rt, Negated.answer(Penalty(1500)), Penalty(-1500));
+    equal(&rt, Negated.answer(Penalty(-1)), Penalty(1));
+    equal(&rt, Negated.answer(Penalty(i32::MAX)), Penalty(-2147483647));
+    equal(&rt, Negated.answer(Penalty(-2147483647)), Penalty(i32::MAX));
+    equal(&rt, Negated.answer(Penalty(i32::MIN)), Penalty(i32::MAX));
 }
 
 // 1 2 3 / 4 5 6 in both orders, into another kind of cell; flat cell from flat cell, and the source as it was.
@@ -109,22 +116,22 @@ fn in_its_place(rt: HostRuntime) {
         let mut memory = [1u8, 2, 3, 4, 5, 6, 9];
         let mut others = [7u32; 8];
         let source = Grid::from_vec_with_order(&mut memory, 6, 3, order);
-        assert_eq!(rt; map_check(&source, 8), Ok(()));
+        equal(&rt, map_check(&source, 8), Ok(()));
         let answers = map_ref(&source, &Counted, &mut others);
-        assert_eq!(rt; answers.size(), (2, 3));
-        assert_eq!(rt; answers.order(), order);
-        assert_eq!(rt; answers.limits().most, 8);
+        equal(&rt, answers.size(), (2, 3));
+        equal(&rt, answers.order(), order);
+        equal(&rt, answers.limits().most, 8);
         for r in 0..2 {
             for c in 0..3 {
                 let x = source.get(r, c).map(u32::from);
-                assert_eq!(rt; answers.get(r, c).map(|y| y.wrapping_sub(1000)), x);
+                equal(&rt, answers.get(r, c).map(|y| y.wrapping_sub(1000)), x);
             }
         }
         let (cells, n) = answers.into_vec();
-        assert_eq!(rt; n, 6);
+        equal(&rt, n, 6);
         assert!(rt; cells.starts_with(&[1001, 1002, 1003, 1004, 1005, 1006]));
         let (cells, n) = source.into_vec();
-        assert_eq!(rt; n, 6);
+        equal(&rt, n, 6);
         assert!(rt; cells.starts_with(&[1, 2, 3, 4, 5, 6, 9]));
     }
 }
@@ -140,16 +147,16 @@ fn columns(rt: HostRuntime) {
     let mut others = [Passage::Time(7); 3];
     let source = Grid::from_vec(&mut memory, 3, 1);
     let answers = map_ref(&source, &Hundredths, &mut others);
-    assert_eq!(rt; answers.size(), (3, 1));
-    assert_eq!(rt; answers.get(0, 0), Some(Passage::Time(6199)));
-    assert_eq!(rt; answers.get(1, 0), Some(Passage::Blank));
-    assert_eq!(rt; answers.get(2, 0), Some(Passage::Mark(Mark::OffCourse)));
+    equal(&rt, answers.size(), (3, 1));
+    equal(&rt, answers.get(0, 0), Some(Passage::Time(6199)));
+    equal(&rt, answers.get(1, 0), Some(Passage::Blank));
+    equal(&rt, answers.get(2, 0), Some(Passage::Mark(Mark::OffCourse)));
     let mut memory = [Penalty(i32::MIN), Penalty(250)];
     let mut others = [Penalty(7); 2];
     let source = Grid::from_vec(&mut memory, 2, 1);
     let answers = map_ref(&source, &Negated, &mut others);
-    assert_eq!(rt; answers.get(0, 0), Some(Penalty(i32::MAX)));
-    assert_eq!(rt; answers.get(1, 0), Some(Penalty(-250)));
+    equal(&rt, answers.get(0, 0), Some(Penalty(i32::MAX)));
+    equal(&rt, answers.get(1, 0), Some(Penalty(-250)));
 }
 
 // A cell too few, and no cells at all.
@@ -158,19 +165,19 @@ fn short_or_none(rt: HostRuntime) {
     let mut memory = [1u8, 2, 3, 4, 5, 6];
     let mut others = [7u32; 5];
     let source = Grid::from_vec_with_order(&mut memory, 6, 3, Order::ColumnMajor);
-    assert_eq!(rt; map_check(&source, 5), Err(Refusal::Full));
-    assert_eq!(rt; map_check(&source, 6), Ok(()));
+    equal(&rt, map_check(&source, 5), Err(Refusal::Full));
+    equal(&rt, map_check(&source, 6), Ok(()));
     let answers = map_ref(&source, &Counted, &mut others);
     assert!(rt; answers.is_empty());
-    assert_eq!(rt; answers.order(), Order::ColumnMajor);
-    assert_eq!(rt; answers.limits().most, 5);
+    equal(&rt, answers.order(), Order::ColumnMajor);
+    equal(&rt, answers.limits().most, 5);
     let mut memory = [1u8, 2];
     let mut others = [7u32; 0];
     let source = Grid::from_vec(&mut memory, 0, 3);
-    assert_eq!(rt; map_check(&source, 0), Ok(()));
-    assert_eq!(rt; map_check(&source, 65537), Err(Refusal::Memory));
+    equal(&rt, map_check(&source, 0), Ok(()));
+    equal(&rt, map_check(&source, 65537), Err(Refusal::Memory));
     let answers = map_ref(&source, &Counted, &mut others);
-    assert_eq!(rt; answers.size(), (0, 0));
+    equal(&rt, answers.size(), (0, 0));
 }
 
 // Other memory that is too long, which is said first.
@@ -179,10 +186,10 @@ fn too_long(rt: HostRuntime) -> Result<(), AllocError> {
     let mut memory = [1u8, 2, 3, 4, 5, 6];
     let mut others = vec![in rt.alloc(); 7u32; 65537]?;
     let source = Grid::from_vec(&mut memory, 6, 3);
-    assert_eq!(rt; map_check(&source, 65537), Err(Refusal::Memory));
+    equal(&rt, map_check(&source, 65537), Err(Refusal::Memory));
     let answers = map_ref(&source, &Counted, &mut others);
     assert!(rt; answers.is_empty());
-    assert_eq!(rt; answers.limits().most, 65536);
+    equal(&rt, answers.limits().most, 65536);
     Ok(())
 }
 
@@ -192,9 +199,9 @@ fn largest(rt: HostRuntime) -> Result<(), AllocError> {
     let mut memory = vec![in rt.alloc(); 5u8; 65536]?;
     let mut others = vec![in rt.alloc(); 7u32; 65536]?;
     let source = Grid::from_vec(&mut memory, 65536, 256);
-    assert_eq!(rt; map_check(&source, 65535), Err(Refusal::Full));
+    equal(&rt, map_check(&source, 65535), Err(Refusal::Full));
     let answers = map_ref(&source, &Counted, &mut others);
-    assert_eq!(rt; answers.size(), (256, 256));
-    assert_eq!(rt; answers.get(255, 255), Some(1005));
+    equal(&rt, answers.size(), (256, 256));
+    equal(&rt, answers.get(255, 255), Some(1005));
     Ok(())
 }

@@ -1,5 +1,5 @@
 // Worked cases on the grid A, which is 1 2 3 / 4 5 6.
-use crate::expect::*;
+use crate::expect::{equal, *};
 use cells::refusal::Refusal;
 use grid::grid::Grid;
 use matrix::axis::Axis;
@@ -25,8 +25,8 @@ fn row_inserted(rt: HostRuntime) {
     for (order, flat) in flat {
         let mut memory = [0u8; 16];
         let mut g = a(&mut memory, order);
-        assert_eq!(rt; g.insert_row(1, &[7, 8, 9]), Ok(()));
-        assert_eq!(rt; g.size(), (3, 3));
+        equal(&rt, g.insert_row(1, &[7, 8, 9]), Ok(()));
+        equal(&rt, g.size(), (3, 3));
         shows(&rt, &g, 3, &[1, 2, 3, 7, 8, 9, 4, 5, 6]);
         ended(&rt, g, &flat);
     }
@@ -38,7 +38,7 @@ fn row_removed(rt: HostRuntime) {
     let mut line = [0u8; 3];
     let mut g = a(&mut memory, Order::ColumnMajor);
     took(&rt, g.remove_row(0, &mut line), &line, &[1, 2, 3]);
-    assert_eq!(rt; g.size(), (1, 3));
+    equal(&rt, g.size(), (1, 3));
     ended(&rt, g, &[4, 5, 6]);
 }
 
@@ -47,8 +47,8 @@ fn turned(rt: HostRuntime) {
     let mut memory = [0u8; 16];
     let mut g = a(&mut memory, Order::RowMajor);
     g.rotate_right();
-    assert_eq!(rt; g.size(), (3, 2));
-    assert_eq!(rt; g.order(), Order::ColumnMajor);
+    equal(&rt, g.size(), (3, 2));
+    equal(&rt, g.order(), Order::ColumnMajor);
     ended(&rt, g, &[4, 5, 6, 1, 2, 3]);
 }
 
@@ -57,22 +57,22 @@ fn turned(rt: HostRuntime) {
 fn places(rt: HostRuntime) {
     let mut memory = [0u8; 16];
     let mut g = a(&mut memory, Order::RowMajor);
-    assert_eq!(rt; g.insert_row(3, &[7, 8, 9]), Err(Refusal::Place));
-    assert_eq!(rt; g.insert_row(3, &[7, 8]), Err(Refusal::Length));
-    assert_eq!(rt; g.insert_row(0, &[]), Err(Refusal::Empty));
-    assert_eq!(rt; g.put(2, 0, 9), Err(Refusal::Place));
+    equal(&rt, g.insert_row(3, &[7, 8, 9]), Err(Refusal::Place));
+    equal(&rt, g.insert_row(3, &[7, 8]), Err(Refusal::Length));
+    equal(&rt, g.insert_row(0, &[]), Err(Refusal::Empty));
+    equal(&rt, g.put(2, 0, 9), Err(Refusal::Place));
     shows(&rt, &g, 3, &[1, 2, 3, 4, 5, 6]);
-    assert_eq!(rt; g.insert_row(2, &[7, 8, 9]), Ok(()));
+    equal(&rt, g.insert_row(2, &[7, 8, 9]), Ok(()));
     ended(&rt, g, &[1, 2, 3, 4, 5, 6, 7, 8, 9]);
 }
 
 #[test]
 fn making(rt: HostRuntime) {
     let mut memory = [0u8; 16];
-    assert_eq!(rt; from_vec_check(16, 4, 0), Err(Refusal::Ragged));
-    assert_eq!(rt; from_vec_check(65537, 4, 0), Err(Refusal::Memory));
+    equal(&rt, from_vec_check(16, 4, 0), Err(Refusal::Ragged));
+    equal(&rt, from_vec_check(65537, 4, 0), Err(Refusal::Memory));
     let g = lay(&mut memory, &[], 7, Order::RowMajor);
-    assert_eq!(rt; g.size(), (0, 0));
+    equal(&rt, g.size(), (0, 0));
     ended(&rt, g, &[]);
 }
 
@@ -81,10 +81,10 @@ fn cleared(rt: HostRuntime) {
     let mut memory = [0u8; 16];
     let mut g = a(&mut memory, Order::ColumnMajor);
     g.clear();
-    assert_eq!(rt; g.size(), (0, 0));
-    assert_eq!(rt; g.order(), Order::ColumnMajor);
-    assert_eq!(rt; g.get(0, 0), None);
-    assert_eq!(rt; g.push_col(&[7, 8]), Ok(()));
+    equal(&rt, g.size(), (0, 0));
+    equal(&rt, g.order(), Order::ColumnMajor);
+    equal(&rt, g.get(0, 0), None);
+    equal(&rt, g.push_col(&[7, 8]), Ok(()));
     ended(&rt, g, &[7, 8]);
 }
 
@@ -96,7 +96,7 @@ fn filled(rt: HostRuntime) {
     g.fill(7);
     shows(&rt, &g, 3, &[7, 7, 7, 7, 7, 7]);
     let (cells, n) = g.into_vec();
-    assert_eq!(rt; n, 6);
+    equal(&rt, n, 6);
     assert!(rt; cells.starts_with(&[7, 7, 7, 7, 7, 7, 9, 9]));
 }
 
@@ -109,10 +109,10 @@ fn swapped(rt: HostRuntime) {
     for (order, flat) in flat {
         let mut memory = [0u8; 16];
         let mut g = a(&mut memory, order);
-        assert_eq!(rt; g.swap((0, 0), (1, 2)), Ok(()));
-        assert_eq!(rt; g.swap((1, 1), (1, 1)), Ok(()));
-        assert_eq!(rt; g.swap((2, 0), (0, 0)), Err(Refusal::Place));
-        assert_eq!(rt; g.swap((0, 0), (0, 3)), Err(Refusal::Place));
+        equal(&rt, g.swap((0, 0), (1, 2)), Ok(()));
+        equal(&rt, g.swap((1, 1), (1, 1)), Ok(()));
+        equal(&rt, g.swap((2, 0), (0, 0)), Err(Refusal::Place));
+        equal(&rt, g.swap((0, 0), (0, 3)), Err(Refusal::Place));
         shows(&rt, &g, 3, &[6, 2, 3, 4, 5, 1]);
         ended(&rt, g, &flat);
     }
@@ -127,9 +127,9 @@ fn same(rt: HostRuntime) {
     let mut h = a(&mut others, Order::ColumnMajor);
     assert!(rt; g.same(&h));
     assert!(rt; h.same(&g));
-    assert_eq!(rt; h.put(1, 2, 7), Ok(()));
+    equal(&rt, h.put(1, 2, 7), Ok(()));
     assert!(rt; !g.same(&h));
-    assert_eq!(rt; h.put(1, 2, 6), Ok(()));
+    equal(&rt, h.put(1, 2, 6), Ok(()));
     assert!(rt; g.same(&h));
     h.transpose();
     assert!(rt; !g.same(&h));
@@ -143,22 +143,22 @@ fn spaced(rt: HostRuntime) {
     for order in [Order::RowMajor, Order::ColumnMajor] {
         let mut memory = [9u8; 24];
         let mut g = a(&mut memory, order);
-        assert_eq!(rt; g.expand_cols(2), Ok(()));
+        equal(&rt, g.expand_cols(2), Ok(()));
         shows(&rt, &g, 5, &[1, 2, 3, 0, 0, 4, 5, 6, 0, 0]);
-        assert_eq!(rt; g.prepend_rows(1), Ok(()));
+        equal(&rt, g.prepend_rows(1), Ok(()));
         shows(&rt, &g, 5, &[0, 0, 0, 0, 0, 1, 2, 3, 0, 0, 4, 5, 6, 0, 0]);
-        assert_eq!(rt; g.delete(Axis::Col, 4), Ok(()));
-        assert_eq!(rt; g.prepend_cols(1), Ok(()));
+        equal(&rt, g.delete(Axis::Col, 4), Ok(()));
+        equal(&rt, g.prepend_cols(1), Ok(()));
         shows(&rt, &g, 5, &[0, 0, 0, 0, 0, 0, 1, 2, 3, 0, 0, 4, 5, 6, 0]);
-        assert_eq!(rt; g.delete(Axis::Row, 0), Ok(()));
-        assert_eq!(rt; g.expand_rows(2), Ok(()));
+        equal(&rt, g.delete(Axis::Row, 0), Ok(()));
+        equal(&rt, g.expand_rows(2), Ok(()));
         shows(
             &rt,
             &g,
             5,
             &[0, 1, 2, 3, 0, 0, 4, 5, 6, 0, 0, 0, 0, 0, 0, 0, 0, 0, 0, 0],
         );
-        assert_eq!(rt; g.order(), order);
+        equal(&rt, g.order(), order);
     }
 }
 
@@ -167,19 +167,19 @@ fn spaced(rt: HostRuntime) {
 fn spaced_or_not(rt: HostRuntime) {
     let mut memory = [9u8; 8];
     let mut g = a(&mut memory, Order::RowMajor);
-    assert_eq!(rt; g.expand_rows(0), Ok(()));
-    assert_eq!(rt; g.prepend_cols(0), Ok(()));
-    assert_eq!(rt; g.expand_rows(255), Err(Refusal::Side));
-    assert_eq!(rt; g.prepend_cols(usize::MAX), Err(Refusal::Side));
-    assert_eq!(rt; g.expand_cols(2), Err(Refusal::Full));
-    assert_eq!(rt; g.prepend_rows(1), Err(Refusal::Full));
+    equal(&rt, g.expand_rows(0), Ok(()));
+    equal(&rt, g.prepend_cols(0), Ok(()));
+    equal(&rt, g.expand_rows(255), Err(Refusal::Side));
+    equal(&rt, g.prepend_cols(usize::MAX), Err(Refusal::Side));
+    equal(&rt, g.expand_cols(2), Err(Refusal::Full));
+    equal(&rt, g.prepend_rows(1), Err(Refusal::Full));
     shows(&rt, &g, 3, &[1, 2, 3, 4, 5, 6]);
-    assert_eq!(rt; g.expand_cols(1), Ok(()));
+    equal(&rt, g.expand_cols(1), Ok(()));
     ended(&rt, g, &[1, 2, 3, 0, 4, 5, 6, 0]);
     let mut memory = [9u8; 8];
     let mut g = lay(&mut memory, &[], 3, Order::RowMajor);
-    assert_eq!(rt; g.expand_rows(2), Ok(()));
-    assert_eq!(rt; g.prepend_cols(300), Ok(()));
+    equal(&rt, g.expand_rows(2), Ok(()));
+    equal(&rt, g.prepend_cols(300), Ok(()));
     assert!(rt; g.is_empty());
 }
 
@@ -189,15 +189,15 @@ fn limits(rt: HostRuntime) {
     let mut memory = [0u8; 8];
     let mut line = [0u8; 3];
     let mut g = a(&mut memory, Order::RowMajor);
-    assert_eq!(rt; g.push_row(&[7, 8, 9]), Err(Refusal::Full));
+    equal(&rt, g.push_row(&[7, 8, 9]), Err(Refusal::Full));
     took(&rt, g.remove_row(1, &mut line), &line, &[4, 5, 6]);
-    assert_eq!(rt; g.push_row(&[7, 8, 9]), Ok(()));
+    equal(&rt, g.push_row(&[7, 8, 9]), Ok(()));
     ended(&rt, g, &[1, 2, 3, 7, 8, 9]);
     let mut memory = [0u8; 300];
     let mut g = lay(&mut memory, &[], 1, Order::RowMajor);
     for _ in 0..256u16 {
-        assert_eq!(rt; g.push_row(&[5]), Ok(()));
+        equal(&rt, g.push_row(&[5]), Ok(()));
     }
-    assert_eq!(rt; g.push_row(&[5]), Err(Refusal::Side));
-    assert_eq!(rt; g.size(), (256, 1));
+    equal(&rt, g.push_row(&[5]), Err(Refusal::Side));
+    equal(&rt, g.size(), (256, 1));
 }

@@ -8,7 +8,7 @@
 // - `iter`, `iter_mut`, `iter_row_mut`, `iter_col_mut`, `indexed_iter_mut` and `indexed_into_iter`, the last two with two
 //   examples each: there are no walks here that go by flat cells alone, that change a grid or that end it;
 // - `fill_with`, which takes a closure, and `map`, which ends its grid: its example is that of `map_ref`.
-use crate::expect::*;
+use crate::expect::{equal, *};
 use cells::refusal::Refusal;
 use grid::grid::Grid;
 use matrix::making::{from_vec_check, new_check};
@@ -20,20 +20,20 @@ use walks::walk::Walk;
 #[test]
 fn making(rt: HostRuntime) {
     let mut memory = [9u8; 16];
-    assert_eq!(rt; new_check(16, 2, 3), Ok(()));
+    equal(&rt, new_check(16, 2, 3), Ok(()));
     let g = Grid::new(&mut memory, 2, 3);
     shows(&rt, &g, 3, &[0, 0, 0, 0, 0, 0]);
-    assert_eq!(rt; from_vec_check(16, 5, 3), Err(Refusal::Ragged));
+    equal(&rt, from_vec_check(16, 5, 3), Err(Refusal::Ragged));
     let mut memory = [0u8; 16];
     let g = lay(&mut memory, &[], 0, Order::RowMajor);
     assert!(rt; g.is_empty());
     let mut memory = [0u8; 16];
     let mut g = lay(&mut memory, &[1, 2, 3, 4, 5, 6], 3, Order::RowMajor);
-    assert_eq!(rt; g.size(), (2, 3));
-    assert_eq!(rt; g.get(0, 2), Some(3));
-    assert_eq!(rt; g.get(1, 1), Some(5));
-    assert_eq!(rt; g.push_row(&[7, 8, 9]), Ok(()));
-    assert_eq!(rt; g.size(), (3, 3));
+    equal(&rt, g.size(), (2, 3));
+    equal(&rt, g.get(0, 2), Some(3));
+    equal(&rt, g.get(1, 1), Some(5));
+    equal(&rt, g.push_row(&[7, 8, 9]), Ok(()));
+    equal(&rt, g.size(), (3, 3));
     ended(&rt, g, &[1, 2, 3, 4, 5, 6, 7, 8, 9]);
 }
 
@@ -42,11 +42,11 @@ fn making(rt: HostRuntime) {
 fn by_columns(rt: HostRuntime) {
     let mut memory = [0u8; 16];
     let mut g = lay(&mut memory, &[], 3, Order::ColumnMajor);
-    assert_eq!(rt; g.push_row(&[1, 2, 3]), Ok(()));
-    assert_eq!(rt; g.push_row(&[4, 5, 6]), Ok(()));
-    assert_eq!(rt; g.push_row(&[7, 8, 9]), Ok(()));
-    assert_eq!(rt; g.size(), (3, 3));
-    assert_eq!(rt; g.get(1, 1), Some(5));
+    equal(&rt, g.push_row(&[1, 2, 3]), Ok(()));
+    equal(&rt, g.push_row(&[4, 5, 6]), Ok(()));
+    equal(&rt, g.push_row(&[7, 8, 9]), Ok(()));
+    equal(&rt, g.size(), (3, 3));
+    equal(&rt, g.get(1, 1), Some(5));
     ended(&rt, g, &[1, 4, 7, 2, 5, 8, 3, 6, 9]);
 }
 
@@ -55,22 +55,22 @@ fn by_columns(rt: HostRuntime) {
 fn pushed(rt: HostRuntime) {
     let mut memory = [0u8; 16];
     let mut g = lay(&mut memory, &[1, 2, 3, 3, 4, 5], 3, Order::RowMajor);
-    assert_eq!(rt; g.push_row(&[6, 7, 8]), Ok(()));
-    assert_eq!(rt; g.rows(), 3);
+    equal(&rt, g.push_row(&[6, 7, 8]), Ok(()));
+    equal(&rt, g.rows(), 3);
     ended(&rt, g, &[1, 2, 3, 3, 4, 5, 6, 7, 8]);
     let mut memory = [0u8; 16];
     let mut g = lay(&mut memory, &[1, 2, 3, 3, 4, 5], 3, Order::RowMajor);
-    assert_eq!(rt; g.push_col(&[4, 6]), Ok(()));
-    assert_eq!(rt; g.cols(), 4);
+    equal(&rt, g.push_col(&[4, 6]), Ok(()));
+    equal(&rt, g.cols(), 4);
     ended(&rt, g, &[1, 2, 3, 4, 3, 4, 5, 6]);
     let mut memory = [0u8; 16];
     let mut g = lay(&mut memory, &[], 0, Order::RowMajor);
-    assert_eq!(rt; g.push_row(&[1, 2, 3]), Ok(()));
-    assert_eq!(rt; g.size(), (1, 3));
+    equal(&rt, g.push_row(&[1, 2, 3]), Ok(()));
+    equal(&rt, g.size(), (1, 3));
     let mut memory = [0u8; 16];
     let mut g = lay(&mut memory, &[], 0, Order::RowMajor);
-    assert_eq!(rt; g.push_col(&[1, 2, 3]), Ok(()));
-    assert_eq!(rt; g.size(), (3, 1));
+    equal(&rt, g.push_col(&[1, 2, 3]), Ok(()));
+    equal(&rt, g.size(), (3, 1));
 }
 
 #[test]
@@ -80,13 +80,13 @@ fn popped(rt: HostRuntime) {
     let mut g = lay(&mut memory, &[1, 2, 3, 4, 5, 6], 3, Order::RowMajor);
     took(&rt, g.pop_row(&mut line), &line, &[4, 5, 6]);
     took(&rt, g.pop_row(&mut line), &line, &[1, 2, 3]);
-    assert_eq!(rt; g.pop_row(&mut line), Err(Refusal::Place));
+    equal(&rt, g.pop_row(&mut line), Err(Refusal::Place));
     let mut memory = [0u8; 16];
     let mut g = lay(&mut memory, &[1, 2, 3, 4, 5, 6], 3, Order::RowMajor);
     took(&rt, g.pop_col(&mut line), &line, &[3, 6]);
     took(&rt, g.pop_col(&mut line), &line, &[2, 5]);
     took(&rt, g.pop_col(&mut line), &line, &[1, 4]);
-    assert_eq!(rt; g.pop_col(&mut line), Err(Refusal::Place));
+    equal(&rt, g.pop_col(&mut line), Err(Refusal::Place));
 }
 
 #[test]
@@ -97,14 +97,14 @@ fn removed(rt: HostRuntime) {
     took(&rt, g.remove_row(1, &mut line), &line, &[3, 4]);
     took(&rt, g.remove_row(0, &mut line), &line, &[1, 2]);
     took(&rt, g.remove_row(0, &mut line), &line, &[5, 6]);
-    assert_eq!(rt; g.remove_row(0, &mut line), Err(Refusal::Place));
+    equal(&rt, g.remove_row(0, &mut line), Err(Refusal::Place));
     let mut memory = [0u8; 16];
     let mut g = sixteen(&mut memory);
     took(&rt, g.remove_col(3, &mut line), &line, &[4, 8, 12, 16]);
     took(&rt, g.remove_col(0, &mut line), &line, &[1, 5, 9, 13]);
     took(&rt, g.remove_col(1, &mut line), &line, &[3, 7, 11, 15]);
     took(&rt, g.remove_col(0, &mut line), &line, &[2, 6, 10, 14]);
-    assert_eq!(rt; g.remove_col(0, &mut line), Err(Refusal::Place));
+    equal(&rt, g.remove_col(0, &mut line), Err(Refusal::Place));
 }
 
 fn sixteen(memory: &mut [u8]) -> Grid<'_, u8> {
@@ -135,11 +135,11 @@ fn deleted(rt: HostRuntime) {
 fn inserted(rt: HostRuntime) {
     let mut memory = [0u8; 16];
     let mut g = lay(&mut memory, &[1, 2, 3, 4, 5, 6], 3, Order::RowMajor);
-    assert_eq!(rt; g.insert_row(1, &[7, 8, 9]), Ok(()));
+    equal(&rt, g.insert_row(1, &[7, 8, 9]), Ok(()));
     shows(&rt, &g, 3, &[1, 2, 3, 7, 8, 9, 4, 5, 6]);
     let mut memory = [0u8; 16];
     let mut g = lay(&mut memory, &[1, 2, 3, 4, 5, 6], 3, Order::RowMajor);
-    assert_eq!(rt; g.insert_col(1, &[9, 9]), Ok(()));
+    equal(&rt, g.insert_col(1, &[9, 9]), Ok(()));
     shows(&rt, &g, 4, &[1, 9, 2, 3, 4, 9, 5, 6]);
 }
 
@@ -195,9 +195,9 @@ fn indexed(rt: HostRuntime) {
     let g = lay(&mut memory, &[1, 2, 3, 4], 2, Order::RowMajor);
     let mut walk = indexed_iter(&g);
     for item in [((0, 0), 1), ((0, 1), 2), ((1, 0), 3), ((1, 1), 4)] {
-        assert_eq!(rt; walk.next(&g), Some(item));
+        equal(&rt, walk.next(&g), Some(item));
     }
-    assert_eq!(rt; walk.next(&g), None);
+    equal(&rt, walk.next(&g), None);
 }
 
 // `expand_rows`, `expand_cols`, `prepend_rows` and `prepend_cols`, each on the grid of its example.
@@ -206,18 +206,18 @@ fn spaced(rt: HostRuntime) {
     let flat = [1, 2, 3, 3, 4, 5];
     let mut memory = [9u8; 16];
     let mut g = lay(&mut memory, &flat, 3, Order::RowMajor);
-    assert_eq!(rt; g.expand_rows(2), Ok(()));
+    equal(&rt, g.expand_rows(2), Ok(()));
     shows(&rt, &g, 3, &[1, 2, 3, 3, 4, 5, 0, 0, 0, 0, 0, 0]);
     let mut memory = [9u8; 16];
     let mut g = lay(&mut memory, &flat, 3, Order::RowMajor);
-    assert_eq!(rt; g.expand_cols(2), Ok(()));
+    equal(&rt, g.expand_cols(2), Ok(()));
     shows(&rt, &g, 5, &[1, 2, 3, 0, 0, 3, 4, 5, 0, 0]);
     let mut memory = [9u8; 16];
     let mut g = lay(&mut memory, &flat, 3, Order::RowMajor);
-    assert_eq!(rt; g.prepend_rows(2), Ok(()));
+    equal(&rt, g.prepend_rows(2), Ok(()));
     shows(&rt, &g, 3, &[0, 0, 0, 0, 0, 0, 1, 2, 3, 3, 4, 5]);
     let mut memory = [9u8; 16];
     let mut g = lay(&mut memory, &flat, 3, Order::RowMajor);
-    assert_eq!(rt; g.prepend_cols(2), Ok(()));
+    equal(&rt, g.prepend_cols(2), Ok(()));
     shows(&rt, &g, 5, &[0, 0, 1, 2, 3, 0, 0, 3, 4, 5]);
 }

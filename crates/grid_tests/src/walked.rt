@@ -1,5 +1,5 @@
 // Walks over lines and cells.
-use crate::expect::*;
+use crate::expect::{equal, *};
 use cells::refusal::Refusal;
 use grid::grid::Grid;
 use matrix::axis::Axis;
@@ -13,10 +13,10 @@ use walks::walk::{Walk, read};
 // The walk gives these cells, and then nothing.
 fn gives(rt: &impl Abort, mut walk: LineWalk, g: &Grid<'_, u8>, cells: &[u8]) {
     for x in cells {
-        assert_eq!(rt; walk.next(g), Some(*x));
+        equal(rt, walk.next(g), Some(*x));
     }
-    assert_eq!(rt; walk.next(g), None);
-    assert_eq!(rt; walk.next(g), None);
+    equal(rt, walk.next(g), None);
+    equal(rt, walk.next(g), None);
 }
 
 // A line was handed out, and it gives these cells.
@@ -47,19 +47,19 @@ fn documented(rt: HostRuntime) {
     handed(&rt, iter_row(&g, 1).ok(), &g, &[3, 4, 5]);
     let mut memory = [0u8; 8];
     let g = lay(&mut memory, &[1, 2, 3, 4], 2, Order::RowMajor);
-    assert_eq!(rt; indexed_iter(&g).next(&g), Some(((0, 0), 1)));
+    equal(&rt, indexed_iter(&g).next(&g), Some(((0, 0), 1)));
     let mut memory = [0u8; 8];
     let g = lay(&mut memory, &[1, 2, 3, 4, 5, 6], 3, Order::RowMajor);
     let mut rows = iter_rows(&g);
     for by_row in [6, 15] {
-        assert_eq!(rt; rows.next(&g).map(|row| sum(row, &g)), Some(by_row));
+        equal(&rt, rows.next(&g).map(|row| sum(row, &g)), Some(by_row));
     }
-    assert_eq!(rt; rows.next(&g), None);
+    equal(&rt, rows.next(&g), None);
     let mut cols = iter_cols(&g);
     for by_col in [5, 7, 9] {
-        assert_eq!(rt; cols.next(&g).map(|col| sum(col, &g)), Some(by_col));
+        equal(&rt, cols.next(&g).map(|col| sum(col, &g)), Some(by_col));
     }
-    assert_eq!(rt; cols.next(&g), None);
+    equal(&rt, cols.next(&g), None);
 }
 
 // A row and a column in both orders, and the lines that are not there.
@@ -75,8 +75,8 @@ fn lines_walked(rt: HostRuntime) {
         handed(&rt, iter_row(&g, 1).ok(), &g, &[4, 5, 6]);
         handed(&rt, iter_col(&g, 2).ok(), &g, &[3, 6]);
         handed(&rt, iter_line(&g, Axis::Col, 0).ok(), &g, &[1, 4]);
-        assert_eq!(rt; iter_row(&g, 2), Err(Refusal::Place));
-        assert_eq!(rt; iter_col(&g, 3), Err(Refusal::Place));
+        equal(&rt, iter_row(&g, 2), Err(Refusal::Place));
+        equal(&rt, iter_col(&g, 3), Err(Refusal::Place));
     }
 }
 
@@ -86,12 +86,17 @@ fn lines_read(rt: HostRuntime) {
     let mut memory = [0u8; 16];
     let g = lay(&mut memory, &[1, 2, 3, 4, 5, 6], 3, Order::RowMajor);
     let mut line = [9u8; 4];
-    assert_eq!(rt; read_line(&g, Axis::Row, 2, &mut line), Err(Refusal::Place));
-    assert_eq!(rt;
-        read_line(&g, Axis::Row, 1, &mut line[..2]),
-        Err(Refusal::Short)
+    equal(
+        &rt,
+        read_line(&g, Axis::Row, 2, &mut line),
+        Err(Refusal::Place),
     );
-    assert_eq!(rt; line, [9, 9, 9, 9]);
+    equal(
+        &rt,
+        read_line(&g, Axis::Row, 1, &mut line[..2]),
+        Err(Refusal::Short),
+    );
+    equal(&rt, line, [9, 9, 9, 9]);
     took(
         &rt,
         read_line(&g, Axis::Row, 1, &mut line),
@@ -105,11 +110,11 @@ fn lines_read(rt: HostRuntime) {
         &[1, 4, 6, 9],
     );
     if let Ok(mut walk) = iter_row(&g, 0) {
-        assert_eq!(rt; read(&mut walk, &g, &mut line[..2]), 2);
-        assert_eq!(rt; line, [1, 2, 6, 9]);
-        assert_eq!(rt; read(&mut walk, &g, &mut line), 1);
-        assert_eq!(rt; line, [3, 2, 6, 9]);
-        assert_eq!(rt; read(&mut walk, &g, &mut line), 0);
+        equal(&rt, read(&mut walk, &g, &mut line[..2]), 2);
+        equal(&rt, line, [1, 2, 6, 9]);
+        equal(&rt, read(&mut walk, &g, &mut line), 1);
+        equal(&rt, line, [3, 2, 6, 9]);
+        equal(&rt, read(&mut walk, &g, &mut line), 0);
     }
 }
 
@@ -119,8 +124,9 @@ fn cells_with_places(rt: HostRuntime) {
     let mut memory = [0u8; 16];
     let g = lay(&mut memory, &[1, 2, 3, 4, 5, 6], 3, Order::RowMajor);
     let mut items = [((9, 9), 9); 7];
-    assert_eq!(rt; read_cells(&g, &mut items), 6);
-    assert_eq!(rt;
+    equal(&rt, read_cells(&g, &mut items), 6);
+    equal(
+        &rt,
         items,
         [
             ((0, 0), 1),
@@ -129,19 +135,23 @@ fn cells_with_places(rt: HostRuntime) {
             ((1, 0), 4),
             ((1, 1), 5),
             ((1, 2), 6),
-            ((9, 9), 9)
-        ]
+            ((9, 9), 9),
+        ],
     );
     let mut memory = [0u8; 16];
     let g = lay(&mut memory, &[1, 4, 2, 5, 3, 6], 3, Order::ColumnMajor);
     let mut items = [((9, 9), 9); 4];
-    assert_eq!(rt; read_cells(&g, &mut items), 4);
-    assert_eq!(rt; items, [((0, 0), 1), ((1, 0), 4), ((0, 1), 2), ((1, 1), 5)]);
+    equal(&rt, read_cells(&g, &mut items), 4);
+    equal(
+        &rt,
+        items,
+        [((0, 0), 1), ((1, 0), 4), ((0, 1), 2), ((1, 1), 5)],
+    );
     let mut walk = indexed_iter(&g);
-    assert_eq!(rt; read(&mut walk, &g, &mut items), 4);
-    assert_eq!(rt; walk.next(&g), Some(((0, 2), 3)));
-    assert_eq!(rt; walk.next(&g), Some(((1, 2), 6)));
-    assert_eq!(rt; walk.next(&g), None);
+    equal(&rt, read(&mut walk, &g, &mut items), 4);
+    equal(&rt, walk.next(&g), Some(((0, 2), 3)));
+    equal(&rt, walk.next(&g), Some(((1, 2), 6)));
+    equal(&rt, walk.next(&g), None);
 }
 
 // Front and back in turn, until each row has come once.
@@ -154,15 +164,15 @@ fn both_ends(rt: HostRuntime) {
     handed(&rt, rows.next(&g), &g, &[1, 2]);
     handed(&rt, rows.next_back(&g), &g, &[5, 6]);
     handed(&rt, rows.next_from(&g, End::Front), &g, &[3, 4]);
-    assert_eq!(rt; rows.next(&g), None);
-    assert_eq!(rt; rows.next_back(&g), None);
+    equal(&rt, rows.next(&g), None);
+    equal(&rt, rows.next_back(&g), None);
     let mut cols = [None; 3];
     let ends = [End::Front, End::Back, End::Back];
     let mut left = lines_from(&g, Axis::Col, &ends, &mut cols);
     handed(&rt, cols[0], &g, &[1, 3, 5, 7]);
     handed(&rt, cols[1], &g, &[2, 4, 6, 8]);
-    assert_eq!(rt; cols[2], None);
-    assert_eq!(rt; left.next_back(&g), None);
+    equal(&rt, cols[2], None);
+    equal(&rt, left.next_back(&g), None);
 }
 
 // Nothing comes of an empty grid.
@@ -170,11 +180,11 @@ fn both_ends(rt: HostRuntime) {
 fn nothing_walked(rt: HostRuntime) {
     let mut memory = [0u8; 16];
     let g = lay(&mut memory, &[], 3, Order::ColumnMajor);
-    assert_eq!(rt; iter_row(&g, 0), Err(Refusal::Place));
-    assert_eq!(rt; iter_col(&g, 0), Err(Refusal::Place));
-    assert_eq!(rt; iter_rows(&g).next(&g), None);
-    assert_eq!(rt; iter_cols(&g).next_back(&g), None);
-    assert_eq!(rt; indexed_iter(&g).next(&g), None);
+    equal(&rt, iter_row(&g, 0), Err(Refusal::Place));
+    equal(&rt, iter_col(&g, 0), Err(Refusal::Place));
+    equal(&rt, iter_rows(&g).next(&g), None);
+    equal(&rt, iter_cols(&g).next_back(&g), None);
+    equal(&rt, indexed_iter(&g).next(&g), None);
 }
 
 // Walks that are lent a smaller grid, and then their own again.
@@ -185,19 +195,19 @@ fn lent_another(rt: HostRuntime) {
     let mut memory = [0u8; 16];
     let small = lay(&mut memory, &[7, 8], 2, Order::RowMajor);
     let mut cells = indexed_iter(&g);
-    assert_eq!(rt; cells.next(&small), Some(((0, 0), 7)));
-    assert_eq!(rt; cells.next(&small), Some(((0, 1), 8)));
-    assert_eq!(rt; cells.next(&small), None);
-    assert_eq!(rt; cells.next(&g), Some(((0, 2), 3)));
+    equal(&rt, cells.next(&small), Some(((0, 0), 7)));
+    equal(&rt, cells.next(&small), Some(((0, 1), 8)));
+    equal(&rt, cells.next(&small), None);
+    equal(&rt, cells.next(&g), Some(((0, 2), 3)));
     let mut rows = iter_rows(&g);
     handed(&rt, rows.next_back(&small), &small, &[7, 8]);
-    assert_eq!(rt; rows.next(&g), None);
+    equal(&rt, rows.next(&g), None);
     if let Ok(mut row) = iter_row(&g, 0) {
-        assert_eq!(rt; row.next(&small), Some(7));
-        assert_eq!(rt; row.next(&g), Some(2));
-        assert_eq!(rt; row.next(&small), None);
-        assert_eq!(rt; row.next(&g), Some(3));
-        assert_eq!(rt; row.next(&g), None);
+        equal(&rt, row.next(&small), Some(7));
+        equal(&rt, row.next(&g), Some(2));
+        equal(&rt, row.next(&small), None);
+        equal(&rt, row.next(&g), Some(3));
+        equal(&rt, row.next(&g), None);
     }
 }
 
@@ -208,10 +218,10 @@ fn changed_since(rt: HostRuntime) {
     let mut g = lay(&mut memory, &[1, 2, 3, 4], 2, Order::RowMajor);
     let mut rows = iter_rows(&g);
     handed(&rt, rows.next(&g), &g, &[1, 2]);
-    assert_eq!(rt; g.insert_row(0, &[8, 9]), Ok(()));
+    equal(&rt, g.insert_row(0, &[8, 9]), Ok(()));
     handed(&rt, rows.next(&g), &g, &[1, 2]);
-    assert_eq!(rt; rows.next(&g), None);
+    equal(&rt, rows.next(&g), None);
     let mut cells = indexed_iter(&g);
     g.clear();
-    assert_eq!(rt; cells.next(&g), None);
+    equal(&rt, cells.next(&g), None);
 }

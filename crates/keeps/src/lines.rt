@@ -20,9 +20,9 @@ pub fn push_line<K: Keep>(keep: &mut K, line: &[K::Cell])
 // come last, and before them the rest of the memory, backwards.
 pub fn pull_line<K: Keep>(keep: &mut K, memory: &mut [K::Cell])
     ensures effect { let k = K.store keep.old in K.ordered keep.old → K.store keep.new ≡ holding (take (length k.cells - length memory.old) k.cells) k }
-    ensures memory { let xs = (K.store keep.old).cells in K.ordered keep.old → memory.new ≡ reverse (drop (length xs) memory.old) ++ drop (length xs - length memory.old) xs }
     ensures ordered { K.ordered keep.old → K.ordered keep.new }
     ensures limit { (K.store keep.new).most ≡ (K.store keep.old).most }
+    ensures memory { let xs = (K.store keep.old).cells in K.ordered keep.old → memory.new ≡ reverse (drop (length xs) memory.old) ++ drop (length xs - length memory.old) xs }
 {
     for place in memory.iter_mut() {
         if let Some(x) = keep.take() {

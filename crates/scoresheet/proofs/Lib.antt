@@ -1,3 +1,4 @@
 mod Whole
 mod Kept
 mod Planned
+mod Unrolling

@@ -1,7 +1,8 @@
 -- What each line of a sheet asks of the library.
-use Rattle.std.specs.Prelude.{◌≡◌, ℕ, ◌+◌, ◌-◌, ◌*◌, ◌==◌, min, cond, List, [], ◌∷◌, ◌++◌, length, Option, Some, None, Result, Ok, Err, ⊤}
+use Rattle.std.specs.Prelude.{◌≡◌, ℕ, ◌+◌, ◌-◌, ◌*◌, ◌==◌, min, false, cond, List, [], ◌∷◌, ◌++◌, length, Option, Some, None, Result, Ok, Err, ⊤}
 use Rattle.matrix.specs.Rules.{side_limit}
 use Rattle.flat.specs.declared.segment.Segment.{Segment}
+use Rattle.listing.specs.declared.call.SheetKind.{SheetKind}
 use Rattle.listing.specs.declared.call.Call.{Call as Asked}
 use Rattle.listing.specs.declared.call.Call.TheVariants as asked
 use Rattle.listing.specs.declared.wrong.Wrong.{Wrong}
@@ -18,6 +19,7 @@ use Rattle.scoresheet.specs.declared.script.Ask.{Ask}
 use Rattle.scoresheet.specs.declared.script.Ask.TheVariants.{Start, One, Line, Show, Tally}
 use Rattle.scoresheet.specs.declared.script.Supply.{Supply}
 use Rattle.scoresheet.specs.declared.script.Plan.{Plan}
+use Rattle.scoresheet.specs.Wrongs.{begun_by, Mistaken}
 
 -- the cells that come next, of which there are n
 abbrev pub coming : {T : Type 0} → Supply T → ℕ → Segment
@@ -31,10 +33,11 @@ room_lent room = record { start = 0; len = min room side_limit }
 abbrev pub Adds : {T : Type 0} → Ask → List (Call T) → Ask → List (Call T) → List (Call T) → Type 0
 Adds said calls ask old new = (ask ≡ said) × (new ≡ old ++ calls)
 
--- A line's call becomes calls of the library. A removal or a step back stands between two sizes; a row under the sheet is no call.
+-- A line's call becomes calls of the library. A removal or a step back stands between two sizes; a row under the sheet is no call,
+-- and comes before the sheet's first.
 abbrev pub Becomes : {T : Type 0} → (List ℕ → T → Type 0) → Supply T → Asked → Ask → List (Call T) → List (Call T) → Type 0
 Becomes spells supply (asked.New fresh) ask old new = ⊥
-Becomes spells supply (asked.Start words) ask old new = Adds (Start (length supply.starts.items)) [] ask old new
+Becomes spells supply (asked.Start words) ask old new = (begun_by old ≡ false) × Adds (Start (length supply.starts.items)) [] ask old new
 Becomes spells supply (asked.Put r c word) ask old new = (x : _) × spells word.now x × Adds One (Put r c x ∷ []) ask old new
 Becomes spells supply (asked.Insert ax i words) ask old new = Adds One (Insert ax i (coming supply (length words.now)) ∷ []) ask old new
 Becomes spells supply (asked.Remove ax i room) ask old new = Adds Line (Size ∷ Remove ax i (room_lent room) ∷ Size ∷ []) ask old new
@@ -67,16 +70,16 @@ abbrev pub since : {T : Type 0} → List (Call T) → List (Call T) → Segment
 since old new = record { start = length old; len = length new - length old }
 
 -- What is asked by a line that was read, or is wrong with it, follows from what was read.
-abbrev pub Follows : {T : Type 0} → (List ℕ → T → Type 0) → Result Asked Wrong → Result Ask Wrong → Supply T → Supply T → List (Call T) → List (Call T) → Type 0
-Follows spells (Ok call) (Ok ask) supply new_supply calls new_calls = Becomes spells supply call ask calls new_calls × Supplies spells call supply new_supply
-Follows spells (Ok call) (Err wrong) supply new_supply calls new_calls = (new_calls ≡ calls) × (new_supply.starts.items ≡ supply.starts.items)
-Follows spells (Err wrong) ask supply new_supply calls new_calls = (ask ≡ Err wrong) × (new_calls ≡ calls) × (new_supply ≡ supply)
+abbrev pub Follows : {T : Type 0} → (List ℕ → T → Type 0) → SheetKind → Result Asked Wrong → Result Ask Wrong → Supply T → Supply T → List (Call T) → List (Call T) → Type 0
+Follows spells kind (Ok call) (Ok ask) supply new_supply calls new_calls = Becomes spells supply call ask calls new_calls × Supplies spells call supply new_supply
+Follows spells kind (Ok call) (Err wrong) supply new_supply calls new_calls = Mistaken spells kind call calls supply.cells.items new_supply.cells.items wrong × (new_calls ≡ calls) × (new_supply.starts.items ≡ supply.starts.items)
+Follows spells kind (Err wrong) ask supply new_supply calls new_calls = (ask ≡ Err wrong) × (new_calls ≡ calls) × (new_supply ≡ supply)
 
 -- a line more among the items, with its number and its part of the calls
-abbrev pub Notes : {T : Type 0} → (List ℕ → T → Type 0) → Desked → Supply T → Supply T → Plan T → Plan T → Type 0
-Notes spells line supply new_supply plan new_plan =
+abbrev pub Notes : {T : Type 0} → (List ℕ → T → Type 0) → SheetKind → Desked → Supply T → Supply T → Plan T → Plan T → Type 0
+Notes spells kind line supply new_supply plan new_plan =
     (ask : Result Ask Wrong) × (new_plan.items.items ≡ plan.items.items ++ (record { number = line.number; ask = ask; part = since plan.calls.items new_plan.calls.items } ∷ []))
-    × Follows spells line.call ask supply new_supply plan.calls.items new_plan.calls.items
+    × Follows spells kind line.call ask supply new_supply plan.calls.items new_plan.calls.items
 
 -- how many cells come or go between two sizes, if they are not as many; products are held as numbers of 64 bits
 abbrev pub differing : ℕ → ℕ → Option ℕ

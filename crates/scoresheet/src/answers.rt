@@ -1,9 +1,11 @@
 // The answers of a sheet as they are printed.
 // kept: `outcome` on each call, since it speaks of an output before and after it, so that no invariant says it. Calls and what they
 // were answered lie in two slices, as the library takes the one and gives the other.
-ghost use Rattle.std.specs.Prelude.{IfOk, IsOk};
+ghost use Rattle.std.specs.Prelude.{◌≡◌, IfOk, IsOk};
+ghost use Rattle.std.specs.List.{slice_get, filter_map};
 ghost use Rattle.desk.specs.Outcomes.{Clean};
 ghost use Rattle.scoresheet.specs.Plans.{AllAsked};
+ghost use Rattle.scoresheet.specs.Tells.{speech, first_speech, row_speech, counts, as_text, between_text, told_text, cell_told, row_told};
 
 use crate::script::{Ask, Item, Plan, line_length};
 use cells::refusal::Refusal;
@@ -15,6 +17,7 @@ use listing::written::Written;
 use listing::wrong::Wrong;
 use replay::call::{Answer as Said, Call};
 use replay::tally::Tally;
+use std::alloc::{AllocError, Global};
 
 // What a run of a plan has answered: the rows under the sheet, its calls, and the memory as it was left.
 // kept: the answers to the rows apart from the rows, since rows are read once, and a sheet that is run twice answers twice
@@ -42,7 +45,7 @@ impl<T: Written> Played<T> {
         Ok(())
     }
 
-    // The answer of a line, of which these are the calls and what they said.
+    // The answer of a line, and the rows of a sheet that is shown.
     fn print_item(
         &self,
         out: &mut Output<'_>,
@@ -53,27 +56,45 @@ impl<T: Written> Played<T> {
     ) -> anyhow::Result<()>
         ensures outcome { IfOk result (λ _. Clean out.new → Clean out.old × IsOk item.ask) }
     {
+        tell(out, item.number, self.answer(tally, item.ask, calls, said))?;
         match item.ask {
-            Ok(Ask::Start(number)) => tell(out, item.number, self.under(number)),
-            Ok(Ask::One) => tell(out, item.number, first(calls, said)),
-            Ok(Ask::Show) => {
-                tell(out, item.number, first(calls, said))?;
-                rows(out, said)
-            }
-            Ok(Ask::Line) => tell(out, item.number, self.removed(calls, said)),
-            Ok(Ask::Tally) => out.answer(counted::<T>(tally, said)),
-            Err(wrong) => out.error(item.number, wrong),
+            Ok(Ask::Show) => rows(out, said),
+            _ => Ok(()),
+        }
+    }
+
+    // The answer of a line, by what it asks; these are its calls and what they said. Of a sheet that is shown, its first line.
+    fn answer(
+        &self,
+        tally: Tally,
+        ask: Result<Ask, Wrong>,
+        calls: &[Call<T>],
+        said: &[Said<T>],
+    ) -> Result<Answer<'_, T>, Wrong>
+        ensures text { as_text T.Written.spelling result ≡ told_text T.Written.spelling self.now tally ask calls.now said.now }
+        ensures asked { IsOk result → IsOk ask }
+    {
+        // kept: each arm returns by itself: the arms borrow different things, and such arms are not covered where they join
+        match ask? {
+            Ask::Start(number) => return self.under(number),
+            Ask::One | Ask::Show => return first(calls, said),
+            Ask::Line => return self.between(calls, said),
+            Ask::Tally => return Ok(counted(tally, said)),
         }
     }
 
     // The answer of the row of that number under the sheet.
-    fn under(&self, number: usize) -> Result<Answer<'_, T>, Wrong> {
+    fn under(&self, number: usize) -> Result<Answer<'_, T>, Wrong>
+        ensures answer { result ≡ row_speech (slice_get self.now.starts.items number) }
+    {
         let said = self.starts.get(number).ok_or(Wrong::Late)?;
         Ok(Answer::Done(*said))
     }
 
     // The answer of a removal or a step back, between two sizes.
-    fn removed(&self, calls: &[Call<T>], said: &[Said<T>]) -> Result<Answer<'_, T>, Wrong> {
+    fn between(&self, calls: &[Call<T>], said: &[Said<T>]) -> Result<Answer<'_, T>, Wrong>
+        ensures text { as_text T.Written.spelling result ≡ between_text T.Written.spelling self.now.memory.items calls.now said.now }
+    {
         let [_, call, _] = calls else {
             return Err(Wrong::Published);
         };
@@ -99,7 +120,7 @@ fn tell<T: Written>(
     number: usize,
     answer: Result<Answer<'_, T>, Wrong>,
 ) -> anyhow::Result<()>
-    ensures outcome { IfOk result (λ _. Clean out.new → Clean out.old) }
+    ensures outcome { IfOk result (λ _. Clean out.new → Clean out.old × IsOk answer.entry) }
 {
     match answer {
         Ok(answer) => out.answer(answer),
@@ -108,7 +129,9 @@ fn tell<T: Written>(
 }
 
 // What the first call of a line says.
-fn first<'a, T: Written>(calls: &[Call<T>], said: &[Said<T>]) -> Result<Answer<'a, T>, Wrong> {
+fn first<'a, T: Written>(calls: &[Call<T>], said: &[Said<T>]) -> Result<Answer<'a, T>, Wrong>
+    ensures answer { result ≡ first_speech calls.now said.now }
+{
     match (calls.first(), said.first()) {
         (Some(call), Some(said)) => spoken(*call, *said),
         _ => Err(Wrong::Published),
@@ -116,7 +139,9 @@ fn first<'a, T: Written>(calls: &[Call<T>], said: &[Said<T>]) -> Result<Answer<'
 }
 
 // The counts so far, with the count owed. Where the sheet is published nothing is owed.
-fn counted<'a, T: Written>(tally: Tally, said: &[Said<T>]) -> Answer<'a, T> {
+fn counted<'a, T: Written>(tally: Tally, said: &[Said<T>]) -> Answer<'a, T>
+    ensures answer { result ≡ counts tally said.now }
+{
     let owed = match said {
         [Said::Count(owed)] => *owed,
         _ => 0,
@@ -125,7 +150,9 @@ fn counted<'a, T: Written>(tally: Tally, said: &[Said<T>]) -> Answer<'a, T> {
 }
 
 // What a call says, or why the sheet lacks it.
-fn spoken<'a, T: Written>(call: Call<T>, said: Said<T>) -> Result<Answer<'a, T>, Wrong> {
+fn spoken<'a, T: Written>(call: Call<T>, said: Said<T>) -> Result<Answer<'a, T>, Wrong>
+    ensures answer { result ≡ speech call said }
+{
     match (call, said) {
         (_, Said::Said(done)) => Ok(Answer::Done(done)),
         (_, Said::Moved) => Ok(Answer::Done(Ok(()))),
@@ -144,21 +171,38 @@ fn spoken<'a, T: Written>(call: Call<T>, said: Said<T>) -> Result<Answer<'a, T>,
 fn rows<T: Written>(out: &mut Output<'_>, said: &[Said<T>]) -> anyhow::Result<()>
     ensures outcome { IfOk result (λ _. Clean out.new → Clean out.old) }
 {
-    let [Said::Sized(_, cols), cells @ ..] = said else {
+    let [Said::Sized(rows, _), ..] = said else {
         return Ok(());
     };
-    if *cols == 0 {
-        return Ok(());
-    }
-    for row in cells.chunks(*cols) {
-        let line: Vec<T> = row
-            .iter()
-            .filter_map(|said| match said {
-                Said::Cell(cell) => *cell,
-                _ => None,
-            })
-            .collect(out.heap)?;
+    for r in 0..*rows {
+        let line = row(out.heap, said, r)?;
         out.answer(Answer::Row(Cells(line.as_slice())))?;
     }
     Ok(())
+}
+
+// The cells of row r.
+fn row<T: Written>(heap: Global, said: &[Said<T>], r: usize) -> Result<Vec<T>, AllocError>
+    ensures cells { IfOk result (λ line. line.items ≡ row_told r said.now) }
+{
+    let [Said::Sized(_, cols), cells @ ..] = said else {
+        return Ok(Vec::new(heap));
+    };
+    let row = Segment {
+        start: r.saturating_mul(*cols),
+        len: *cols,
+    };
+    cells_of(heap, row.of(cells))
+}
+
+// The cells that were asked for, those that are there.
+fn cells_of<T: Written>(heap: Global, said: &[Said<T>]) -> Result<Vec<T>, AllocError>
+    ensures cells { IfOk result (λ line. line.items ≡ filter_map cell_told said.now) }
+{
+    said.iter()
+        .filter_map(|said| match said {
+            Said::Cell(cell) => *cell,
+            _ => None,
+        })
+        .collect(heap)
 }

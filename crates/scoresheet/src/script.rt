@@ -1,10 +1,16 @@
 // The lines of one sheet as calls of the library.
 // kept: that a call leaves the lines read before speaks of a plan before and after it, so that no invariant says it.
-ghost use Rattle.std.specs.Prelude.{◌≡◌, ◌-◌, [], ◌∷◌, ◌++◌, IfOk, IfErr, IsOk, length};
+ghost use Rattle.std.specs.Prelude.{◌≡◌, ◌+◌, ◌-◌, [], ◌∷◌, ◌++◌, false, not, IfOk, IfErr, IsOk, length};
+ghost use Rattle.std.specs.List.{list_any};
 ghost use Rattle.listing.specs.Calls.{texts};
+ghost use Rattle.listing.specs.Texts.{IsNoMemory};
 ghost use Rattle.desk.specs.Cells.{Gained};
+ghost use Rattle.matrix.specs.Rules.{side_limit};
+ghost use Rattle.replay.specs.Tallies.{capped};
 ghost use Rattle.scoresheet.specs.Plans.{AllAsked};
 ghost use Rattle.scoresheet.specs.Asks.{Adds, Becomes, Notes, Supplies, Unasked, coming, room_lent, moved_to, line_between};
+ghost use Rattle.scoresheet.specs.Wrongs.{begun_by, TooLate, Misspelt, Mistaken, IfWrong};
+ghost use Rattle.scoresheet.specs.Unrolls.{waits, cells_asked, asked_again, pool_after, unrolled};
 
 use desk::lines::Line;
 use desk::spelt::read_cells;
@@ -60,7 +66,10 @@ pub struct Supply<T: Drop> {
 }
 
 impl<T: Written> Supply<T> {
-    pub fn new(heap: Global) -> Supply<T> {
+    pub fn new(heap: Global) -> Supply<T>
+        ensures starts { result.starts.items ≡ [] }
+        ensures cells { result.cells.items ≡ [] }
+    {
         Supply {
             starts: Vec::new(heap),
             cells: Vec::new(heap),
@@ -72,6 +81,7 @@ impl<T: Written> Supply<T> {
         ensures segment { IfOk result (λ g. g ≡ coming self.old (length words.now)) }
         ensures starts { self.new.starts ≡ self.old.starts }
         ensures cells { IfOk result (λ _. Gained T.Written.spells (texts words.now) self.old.cells.items self.new.cells.items) }
+        ensures only { IfErr result (λ e. IfWrong e (Misspelt T.Written.spells kind (texts words.now) self.old.cells.items self.new.cells.items)) }
     {
         let start = self.cells.len();
         read_cells(&mut self.cells, kind, words)?;
@@ -85,6 +95,8 @@ impl<T: Written> Supply<T> {
 impl<T: Written> Plan<T> {
     pub fn new(heap: Global, pool: usize) -> Plan<T>
         ensures items { result.items.items ≡ [] }
+        ensures calls { result.calls.items ≡ [] }
+        ensures pool { result.pool ≡ pool }
     {
         Plan {
             items: Vec::new(heap),
@@ -101,7 +113,8 @@ impl<T: Written> Plan<T> {
         line: Line<'_>,
     ) -> Result<(), AllocError>
         ensures items { IfOk result (λ _. AllAsked self.new.items.items → AllAsked self.old.items.items × IsOk line.entry.call) }
-        ensures notes { IfOk result (λ _. Notes T.Written.spells line.entry supply.old supply.new self.old self.new) }
+        ensures pool { self.new.pool ≡ self.old.pool }
+        ensures notes { IfOk result (λ _. Notes T.Written.spells kind line.entry supply.old supply.new self.old self.new) }
     {
         let first = self.calls.len();
         let asked = match line.call {
@@ -122,9 +135,11 @@ impl<T: Written> Plan<T> {
         call: Asked<'_>,
     ) -> Result<Ask, Failure>
         ensures items { self.new.items ≡ self.old.items }
+        ensures pool { self.new.pool ≡ self.old.pool }
         ensures calls { IfOk result (λ ask. Becomes T.Written.spells supply.old call.entry ask self.old.calls.items self.new.calls.items) }
         ensures supply { IfOk result (λ _. Supplies T.Written.spells call.entry supply.old supply.new) }
         ensures wrong { IfErr result (λ e. Unasked e self.old.calls.items self.new.calls.items supply.old.starts.items supply.new.starts.items) }
+        ensures only { IfErr result (λ e. IfWrong e (Mistaken T.Written.spells kind call.entry self.old.calls.items supply.old.cells.items supply.new.cells.items)) }
     {
         match call {
             Asked::Start(words) => {
@@ -169,6 +184,8 @@ impl<T: Written> Plan<T> {
         ensures starts { IfOk result (λ _. supply.new.starts.items ≡ supply.old.starts.items ++ (row ∷ [])) }
         ensures cells { supply.new.cells ≡ supply.old.cells }
         ensures late { IfErr result (λ e. Unasked {T = T} e [] [] supply.old.starts.items supply.new.starts.items) }
+        ensures first { IfOk result (λ _. begun_by self.now.calls.items ≡ false) }
+        ensures only { IfErr result (λ e. IfWrong e (TooLate self.now.calls.items)) }
     {
         if self.has_begun() {
             return Err(Failure::Wrong(Wrong::Late));
@@ -179,7 +196,9 @@ impl<T: Written> Plan<T> {
     }
 
     // A new sheet is open, so that neither of these calls is the first of its sheet: it lacks both.
-    fn has_begun(&self) -> bool {
+    fn has_begun(&self) -> bool
+        ensures answer { result ≡ begun_by self.now.calls.items }
+    {
         self.calls
             .iter()
             .any(|call| !matches!(call, Call::Reopen | Call::Settled))
@@ -187,8 +206,9 @@ impl<T: Written> Plan<T> {
 
     fn one(&mut self, call: Call<T>) -> Result<Ask, Failure>
         ensures items { self.new.items ≡ self.old.items }
+        ensures pool { self.new.pool ≡ self.old.pool }
         ensures calls { IfOk result (λ ask. Adds Ask.One (call ∷ []) ask self.old.calls.items self.new.calls.items) }
-        ensures memory { IfErr result (λ e. Unasked e self.old.calls.items self.new.calls.items [] []) }
+        ensures memory { IfErr result IsNoMemory }
     {
         self.calls.push(call)?;
         Ok(Ask::One)
@@ -196,8 +216,9 @@ impl<T: Written> Plan<T> {
 
     fn between(&mut self, call: Call<T>) -> Result<Ask, Failure>
         ensures items { self.new.items ≡ self.old.items }
+        ensures pool { self.new.pool ≡ self.old.pool }
         ensures calls { IfOk result (λ ask. Adds Ask.Line (Call.Size ∷ call ∷ Call.Size ∷ []) ask self.old.calls.items self.new.calls.items) }
-        ensures memory { IfErr result (λ e. Unasked e self.old.calls.items self.new.calls.items [] []) }
+        ensures memory { IfErr result IsNoMemory }
     {
         self.calls.push(Call::Size)?;
         self.calls.push(call)?;
@@ -215,6 +236,7 @@ impl<T: Written> Plan<T> {
         ensures items { IfOk result (λ _. AllAsked self.new.items.items → AllAsked self.old.items.items × IsOk ask) }
         ensures noted { IfOk result (λ _. self.new.items.items ≡ self.old.items.items ++ (record { number = number; ask = ask; part = record { start = first; len = length self.old.calls.items - first } } ∷ [])) }
         ensures calls { self.new.calls ≡ self.old.calls }
+        ensures pool { self.new.pool ≡ self.old.pool }
     {
         let len = self.calls.len().saturating_sub(first);
         let part = Segment { start: first, len };
@@ -223,7 +245,9 @@ impl<T: Written> Plan<T> {
     }
 
     // Whether a run of the plan as it stands tells all that its answers print.
-    pub fn is_unrolled(&self) -> bool {
+    pub fn is_unrolled(&self) -> bool
+        ensures answer { result ≡ not (list_any waits self.now.items.items) }
+    {
         !self
             .items
             .iter()
@@ -234,6 +258,9 @@ impl<T: Written> Plan<T> {
     // and every cell of a shown sheet is asked for.
     pub fn unrolled(&self, heap: Global, said: &[Said<T>]) -> Result<Plan<T>, AllocError>
         ensures items { IfOk result (λ plan. AllAsked plan.items.items → AllAsked self.now.items.items) }
+        ensures lines { IfOk result (λ plan. plan.items.items ≡ (unrolled self.now.calls.items said.now self.now.items.items).items) }
+        ensures calls { IfOk result (λ plan. plan.calls.items ≡ (unrolled self.now.calls.items said.now self.now.items.items).calls) }
+        ensures pool { IfOk result (λ plan. plan.pool ≡ capped ((unrolled self.now.calls.items said.now self.now.items.items).pool + side_limit)) }
     {
         let mut plan = Plan::new(heap, 0);
         for item in self.items.iter() {
@@ -251,6 +278,8 @@ impl<T: Written> Plan<T> {
     // Room for a line that comes out, and every cell of a sheet that is shown, when the calls have said this.
     fn unroll(&mut self, ask: Result<Ask, Wrong>, said: &[Said<T>]) -> Result<(), AllocError>
         ensures items { self.new.items ≡ self.old.items }
+        ensures calls { IfOk result (λ _. self.new.calls.items ≡ self.old.calls.items ++ asked_again ask said.now) }
+        ensures pool { IfOk result (λ _. self.new.pool ≡ pool_after ask said.now self.old.pool) }
     {
         match (ask, said) {
             (Ok(Ask::Show), [Said::Sized(rows, cols)]) => self.ask_cells(*rows, *cols),
@@ -266,6 +295,8 @@ impl<T: Written> Plan<T> {
     // kept: a row and a column are what is asked for, and index nothing here
     fn ask_cells(&mut self, rows: usize, cols: usize) -> Result<(), AllocError>
         ensures items { self.new.items ≡ self.old.items }
+        ensures calls { IfOk result (λ _. self.new.calls.items ≡ self.old.calls.items ++ cells_asked rows cols) }
+        ensures pool { self.new.pool ≡ self.old.pool }
     {
         for r in 0..rows {
             for c in 0..cols {

@@ -1,4 +1,5 @@
 // A list on one sheet and its exchange on another, over boards and keeps of other kinds.
+use crate::expect::equal;
 use boards::board::Board;
 use flat::segment::Segment;
 use grid::grid::Grid;
@@ -53,8 +54,8 @@ fn both<
     L: Keep<Cell = u8> + Drop,
 >(rt: &impl Abort, mut board: B, keep: K, mut other: C, first: L, second: L) {
     for (i, line) in [[10, 11, 12], [13, 14, 15]].iter().enumerate() {
-        assert_eq!(rt; board.insert(Axis::Row, i, line), Ok(()));
-        assert_eq!(rt; other.insert(Axis::Col, i, line), Ok(()));
+        equal(rt, board.insert(Axis::Row, i, line), Ok(()));
+        equal(rt, other.insert(Axis::Col, i, line), Ok(()));
     }
     let joined = JoinedKeep::new(first, second);
     let mut exchanged = [Call::Size; 16];
@@ -77,20 +78,20 @@ fn both<
     );
     for (answer, other) in answers.iter().zip(other_answers.iter()) {
         assert!(rt; *answer != Answer::Lacking);
-        assert_eq!(rt; mirrored(*answer), *other);
+        equal(rt, mirrored(*answer), *other);
     }
-    assert_eq!(rt; &memory[0..8], &other_memory[0..8]);
-    assert_eq!(rt; one.owed, 0);
-    assert_eq!(rt; two.owed, 0);
-    assert_eq!(rt; one.board.size(), (3, 2));
-    assert_eq!(rt; two.board.size(), (2, 3));
+    equal(rt, &memory[0..8], &other_memory[0..8]);
+    equal(rt, one.owed, 0);
+    equal(rt, two.owed, 0);
+    equal(rt, one.board.size(), (3, 2));
+    equal(rt, two.board.size(), (2, 3));
     // kept: each place of the board is asked by its numbers, and no cells are listed here.
     for r in 0..3 {
         for c in 0..2 {
-            assert_eq!(rt; one.board.get(r, c), two.board.get(c, r));
+            equal(rt, one.board.get(r, c), two.board.get(c, r));
         }
     }
-    assert_eq!(rt; one.board.get(0, 1), Some(70));
+    equal(rt, one.board.get(0, 1), Some(70));
 }
 
 // Both boards have S = 256 and N = 65,536, and both keeps M = 9.

@@ -1,4 +1,5 @@
 // The worked cases, each on every board and every keep.
+use crate::expect::equal;
 use boards::board::Board;
 use boards::turned::TurnedBoard;
 use cells::kinds::Penalty;
@@ -42,25 +43,25 @@ impl SheetCase for Lifted {
     ) {
         let none = [Penalty(0), Penalty(0)];
         let mut memory = [Penalty(-1); 3];
-        assert_eq!(rt; board.insert(Axis::Row, 0, &none), Ok(()));
-        assert_eq!(rt; board.insert(Axis::Row, 0, &none), Ok(()));
+        equal(rt, board.insert(Axis::Row, 0, &none), Ok(()));
+        equal(rt, board.insert(Axis::Row, 0, &none), Ok(()));
         let mut sheet = OpenSheet::new(board, keep);
-        assert_eq!(rt; sheet.put(0, 1, Penalty(2000)), Ok(()));
-        assert_eq!(rt; sheet.remove(Axis::Row, 0, &mut memory), Ok(()));
-        assert_eq!(rt; memory[1].0, 2000);
-        assert_eq!(rt; memory[2].0, -1);
-        assert_eq!(rt; sheet.owed(), 2);
-        assert_eq!(rt; sheet.kept(), 3);
-        assert_eq!(rt; sheet.step_back(&mut memory), Ok(()));
-        assert_eq!(rt; sheet.kept(), 1);
-        assert_eq!(rt; sheet.get(0, 1), Some(Penalty(2000)));
-        assert_eq!(rt; sheet.step_back(&mut memory), Ok(()));
-        assert_eq!(rt; sheet.kept(), 0);
-        assert_eq!(rt; sheet.size(), (2, 2));
+        equal(rt, sheet.put(0, 1, Penalty(2000)), Ok(()));
+        equal(rt, sheet.remove(Axis::Row, 0, &mut memory), Ok(()));
+        equal(rt, memory[1].0, 2000);
+        equal(rt, memory[2].0, -1);
+        equal(rt, sheet.owed(), 2);
+        equal(rt, sheet.kept(), 3);
+        equal(rt, sheet.step_back(&mut memory), Ok(()));
+        equal(rt, sheet.kept(), 1);
+        equal(rt, sheet.get(0, 1), Some(Penalty(2000)));
+        equal(rt, sheet.step_back(&mut memory), Ok(()));
+        equal(rt, sheet.kept(), 0);
+        equal(rt, sheet.size(), (2, 2));
         for (r, c) in [(0, 0), (0, 1), (1, 0), (1, 1)] {
-            assert_eq!(rt; sheet.get(r, c), Some(Penalty(0)));
+            equal(rt, sheet.get(r, c), Some(Penalty(0)));
         }
-        assert_eq!(rt; sheet.step_back(&mut memory), Err(Refusal::NothingOwed));
+        equal(rt, sheet.step_back(&mut memory), Err(Refusal::NothingOwed));
     }
 }
 
@@ -77,26 +78,27 @@ impl SheetCase for Journal {
     ) {
         let mut memory = [Penalty(0); 1];
         let mut sheet = OpenSheet::new(board, keep);
-        assert_eq!(rt; sheet.insert(Axis::Row, 0, &[Penalty(5)]), Ok(()));
+        equal(rt, sheet.insert(Axis::Row, 0, &[Penalty(5)]), Ok(()));
         for _ in 0..255 {
-            assert_eq!(rt; sheet.transpose(), Ok(()));
+            equal(rt, sheet.transpose(), Ok(()));
         }
-        assert_eq!(rt; sheet.owed(), 256);
-        assert_eq!(rt; sheet.transpose(), Err(Refusal::Journal));
-        assert_eq!(rt; sheet.flip(Axis::Row), Err(Refusal::Journal));
-        assert_eq!(rt; sheet.put(0, 0, Penalty(1)), Err(Refusal::Journal));
-        assert_eq!(rt; sheet.put(1, 0, Penalty(1)), Err(Refusal::Place));
-        assert_eq!(rt;
+        equal(rt, sheet.owed(), 256);
+        equal(rt, sheet.transpose(), Err(Refusal::Journal));
+        equal(rt, sheet.flip(Axis::Row), Err(Refusal::Journal));
+        equal(rt, sheet.put(0, 0, Penalty(1)), Err(Refusal::Journal));
+        equal(rt, sheet.put(1, 0, Penalty(1)), Err(Refusal::Place));
+        equal(
+            rt,
             sheet.remove(Axis::Col, 0, &mut memory),
-            Err(Refusal::Journal)
+            Err(Refusal::Journal),
         );
-        assert_eq!(rt; sheet.get(0, 0), Some(Penalty(5)));
-        assert_eq!(rt; sheet.step_back(&mut memory), Ok(()));
-        assert_eq!(rt; sheet.flip(Axis::Col), Ok(()));
+        equal(rt, sheet.get(0, 0), Some(Penalty(5)));
+        equal(rt, sheet.step_back(&mut memory), Ok(()));
+        equal(rt, sheet.flip(Axis::Col), Ok(()));
         let published = sheet.publish();
-        assert_eq!(rt; published.settled(), 256);
+        equal(rt, published.settled(), 256);
         let reopened = published.reopen();
-        assert_eq!(rt; reopened.owed(), 0);
+        equal(rt, reopened.owed(), 0);
     }
 }
 
@@ -115,19 +117,20 @@ impl SheetCase for Side {
         // kept: the number of a row itself goes in, as its place and as its cell, and comes out below.
         for k in 0..256u16 {
             let cell = Penalty(i32::from(k));
-            assert_eq!(rt; sheet.insert(Axis::Row, usize::from(k), &[cell]), Ok(()));
+            equal(rt, sheet.insert(Axis::Row, usize::from(k), &[cell]), Ok(()));
         }
-        assert_eq!(rt;
+        equal(
+            rt,
             sheet.insert(Axis::Row, 256, &[Penalty(0)]),
-            Err(Refusal::Side)
+            Err(Refusal::Side),
         );
-        assert_eq!(rt; sheet.size(), (256, 1));
+        equal(rt, sheet.size(), (256, 1));
         for k in (0..256u16).rev() {
             let mut memory = [Penalty(0); 1];
-            assert_eq!(rt; sheet.step_back(&mut memory), Ok(()));
-            assert_eq!(rt; memory[0].0, i32::from(k));
+            equal(rt, sheet.step_back(&mut memory), Ok(()));
+            equal(rt, memory[0].0, i32::from(k));
         }
-        assert_eq!(rt; sheet.size(), (0, 0));
+        equal(rt, sheet.size(), (0, 0));
     }
 }
 
@@ -141,12 +144,12 @@ fn stands<B: Board<Cell = Penalty> + Drop, K: Keep<Cell = Penalty> + Drop>(
 ) {
     for (r, row) in rows.iter().enumerate() {
         for (c, x) in row.iter().enumerate() {
-            assert_eq!(rt; sheet.get(r, c), Some(Penalty(*x)));
+            equal(rt, sheet.get(r, c), Some(Penalty(*x)));
         }
-        assert_eq!(rt; sheet.size(), (rows.len(), row.len()));
+        equal(rt, sheet.size(), (rows.len(), row.len()));
     }
-    assert_eq!(rt; sheet.owed(), owed);
-    assert_eq!(rt; sheet.kept(), kept);
+    equal(rt, sheet.owed(), owed);
+    equal(rt, sheet.kept(), kept);
 }
 
 const FIRST: [Penalty; 3] = [Penalty(1), Penalty(2), Penalty(3)];
@@ -157,8 +160,8 @@ const BLANK: [Penalty; 4] = [Penalty(-1); 4];
 
 // Both rows, on a board without one.
 fn lay_two(rt: &impl Abort, board: &mut impl Board<Cell = Penalty>) {
-    assert_eq!(rt; board.insert(Axis::Row, 0, &FIRST), Ok(()));
-    assert_eq!(rt; board.insert(Axis::Row, 1, &SECOND), Ok(()));
+    equal(rt, board.insert(Axis::Row, 0, &FIRST), Ok(()));
+    equal(rt, board.insert(Axis::Row, 1, &SECOND), Ok(()));
 }
 
 // A keep of four cells: a removal that finds too little room is refused, and so is a put that finds none, and both leave all as
@@ -176,26 +179,39 @@ impl SheetCase for KeepFull {
         let mut memory = BLANK;
         lay_two(rt, &mut board);
         let mut sheet = OpenSheet::new(board, keep);
-        assert_eq!(rt; sheet.put(0, 0, Penalty(7)), Ok(()));
-        assert_eq!(rt; sheet.put(0, 1, Penalty(8)), Ok(()));
-        assert_eq!(rt; sheet.remove(Axis::Row, 1, &mut memory), Err(Refusal::Keep));
-        assert_eq!(rt; memory, BLANK);
+        equal(rt, sheet.put(0, 0, Penalty(7)), Ok(()));
+        equal(rt, sheet.put(0, 1, Penalty(8)), Ok(()));
+        equal(
+            rt,
+            sheet.remove(Axis::Row, 1, &mut memory),
+            Err(Refusal::Keep),
+        );
+        equal(rt, memory, BLANK);
         stands(rt, &sheet, &[&[7, 8, 3], &[4, 5, 6]], 2, 2);
-        assert_eq!(rt; sheet.remove(Axis::Col, 0, &mut memory), Ok(()));
-        assert_eq!(rt; memory, [Penalty(7), Penalty(4), Penalty(-1), Penalty(-1)]);
+        equal(rt, sheet.remove(Axis::Col, 0, &mut memory), Ok(()));
+        equal(
+            rt,
+            memory,
+            [Penalty(7), Penalty(4), Penalty(-1), Penalty(-1)],
+        );
         memory = BLANK;
-        assert_eq!(rt; sheet.put(1, 1, Penalty(9)), Err(Refusal::Keep));
-        assert_eq!(rt; sheet.put(1, 2, Penalty(9)), Err(Refusal::Place));
-        assert_eq!(rt; sheet.remove(Axis::Row, 0, &mut memory), Err(Refusal::Keep));
-        assert_eq!(rt; memory, BLANK);
+        equal(rt, sheet.put(1, 1, Penalty(9)), Err(Refusal::Keep));
+        equal(rt, sheet.put(1, 2, Penalty(9)), Err(Refusal::Place));
+        equal(
+            rt,
+            sheet.remove(Axis::Row, 0, &mut memory),
+            Err(Refusal::Keep),
+        );
+        equal(rt, memory, BLANK);
         stands(rt, &sheet, &[&[8, 3], &[5, 6]], 3, 4);
-        assert_eq!(rt; sheet.step_back(&mut memory), Ok(()));
-        assert_eq!(rt; sheet.put(1, 1, Penalty(9)), Ok(()));
+        equal(rt, sheet.step_back(&mut memory), Ok(()));
+        equal(rt, sheet.put(1, 1, Penalty(9)), Ok(()));
         stands(rt, &sheet, &[&[7, 8, 3], &[4, 9, 6]], 3, 3);
     }
 }
 
 // Memory that is shorter than the line: a removal and a step back are refused, and leave all as it was.
+// kept: `assert_eq!` written out, since by `equal` the length of the memory stays open at the last step back
 #[derive(Clone, Copy)]
 struct Short;
 

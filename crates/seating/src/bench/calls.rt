@@ -87,8 +87,8 @@ impl Bench {
 
     // Every seat free; no seats at all where the side is above 256.
     pub(crate) fn empty(side: usize) -> Bench
-        ensures side { result.side ≡ (if nat_le side 256 then side else 0) }
         ensures count { result.count ≡ 0 }
+        ensures side { result.side ≡ (if nat_le side 256 then side else 0) }
     {
         Bench {
             side: if side <= SIDE { side } else { 0 },

@@ -1,6 +1,6 @@
 // Insertion and removal of lines on memory and a seating.
 ghost use Rattle.std.specs.Prelude.{◌≡◌, length};
-ghost use Rattle.cells.specs.Refusals.{answered};
+ghost use Rattle.cells.specs.Refusals.{answered, Kept};
 ghost use Rattle.matrix.specs.Matrix.{over};
 ghost use Rattle.matrix.specs.Axes.{inserted, removed, line_of, insert_along, remove_along};
 ghost use Rattle.seating.specs.Seats.{seated, seated_limits};
@@ -25,6 +25,7 @@ pub fn insert<T: Copy>(
     ensures effect { seated seats.new s.new ≡ answered result (inserted axis i line.now (seated seats.old s.old)) (seated seats.old s.old) }
     ensures cells { Placed (λ _. line_spots axis i seats.new) result line.now s.old s.new }
     ensures side { seats.new.down.side ≡ seats.old.down.side }
+    ensures kept { Kept result seats.old seats.new }
 {
     let (count, across) = seats.lines(s.len(), axis);
     insert_check(seats.limits(s.len()), i, line.len(), count, across)?;
@@ -45,8 +46,9 @@ pub fn remove<T: Copy>(
     ensures answer { result ≡ remove_along axis i memory.old (seated seats.old s.old) }
     ensures effect { seated seats.new s.new ≡ answered result (removed axis i (seated seats.old s.old)) (seated seats.old s.old) }
     ensures line { memory.new ≡ answered result (over (line_of axis i (seated seats.old s.old)) memory.old) memory.old }
-    ensures still { s.new ≡ s.old }
+    ensures cells { s.new ≡ s.old }
     ensures side { seats.new.down.side ≡ seats.old.down.side }
+    ensures kept { Kept result seats.old seats.new }
 {
     let (count, across) = seats.lines(s.len(), axis);
     remove_check(i, memory.len(), count, across)?;

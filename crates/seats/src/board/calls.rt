@@ -1,6 +1,6 @@
 // The seat board is a board.
 ghost use Rattle.std.specs.Prelude.{◌≡◌, length, slice_set};
-ghost use Rattle.cells.specs.Refusals.{answered};
+ghost use Rattle.cells.specs.Refusals.{answered, Kept};
 ghost use Rattle.matrix.specs.Axes.{along, beneath, other, inserted, removed, line_of, flipped, insert_along, remove_along};
 ghost use Rattle.matrix.specs.Matrix.{Matrix, put_cell, over, turned};
 ghost use Rattle.matrix.specs.Rules.{put_answer};
@@ -70,6 +70,7 @@ impl<'a, T: Copy> Board for SeatBoard<'a, T> {
         ensures effect { matrix self.new ≡ answered result (inserted axis i line.now (matrix self.old)) (matrix self.old) }
         ensures cells { Placed (λ _. line_spots (beneath self.old.facing axis) i self.new.seats) result line.now self.old.cells.now self.new.cells.now }
         ensures limits { limits self.new ≡ limits self.old }
+        ensures seats { Kept result self.old.seats self.new.seats }
         ensures facing { self.new.facing ≡ self.old.facing }
         ensures memory { self.new.cells.ghost_name ≡ self.old.cells.ghost_name }
     {
@@ -83,6 +84,7 @@ impl<'a, T: Copy> Board for SeatBoard<'a, T> {
         ensures line { memory.new ≡ answered result (over (line_of axis i (matrix self.old)) memory.old) memory.old }
         ensures cells { self.new.cells.now ≡ self.old.cells.now }
         ensures limits { limits self.new ≡ limits self.old }
+        ensures seats { Kept result self.old.seats self.new.seats }
         ensures facing { self.new.facing ≡ self.old.facing }
         ensures memory { self.new.cells.ghost_name ≡ self.old.cells.ghost_name }
     {

@@ -1,6 +1,6 @@
 // Lines that go onto seats and come off them, along an axis of the tables: a column of a board that is turned is a row there.
 ghost use Rattle.std.specs.Prelude.{◌≡◌};
-ghost use Rattle.cells.specs.Refusals.{answered};
+ghost use Rattle.cells.specs.Refusals.{answered, Kept};
 ghost use Rattle.matrix.specs.Matrix.{over};
 ghost use Rattle.matrix.specs.Axes.{inserted, removed, line_of, insert_along, remove_along};
 ghost use Rattle.seating.specs.Lines.{line_spots, Placed};
@@ -18,6 +18,7 @@ impl<'a, T: Copy> SeatBoard<'a, T> {
         ensures effect { upright self.new ≡ answered result (inserted axis i line.now (upright self.old)) (upright self.old) }
         ensures cells { Placed (λ _. line_spots axis i self.new.seats) result line.now self.old.cells.now self.new.cells.now }
         ensures limits { limits self.new ≡ limits self.old }
+        ensures seats { Kept result self.old.seats self.new.seats }
         ensures facing { self.new.facing ≡ self.old.facing }
         ensures memory { self.new.cells.ghost_name ≡ self.old.cells.ghost_name }
     {
@@ -31,6 +32,7 @@ impl<'a, T: Copy> SeatBoard<'a, T> {
         ensures line { memory.new ≡ answered result (over (line_of axis i (upright self.old)) memory.old) memory.old }
         ensures cells { self.new.cells.now ≡ self.old.cells.now }
         ensures limits { limits self.new ≡ limits self.old }
+        ensures seats { Kept result self.old.seats self.new.seats }
         ensures facing { self.new.facing ≡ self.old.facing }
         ensures memory { self.new.cells.ghost_name ≡ self.old.cells.ghost_name }
     {

@@ -1,6 +1,7 @@
 // Making a seat board, in two calls: a check that may refuse, and a making that never does.
 // kept: no `Result` of the making, since by the rules a board always stands over the memory that is lent, with S = 0 where refused.
 ghost use Rattle.std.specs.Prelude.{◌≡◌, length};
+ghost use Rattle.matrix.specs.declared.axis.Axis.TheVariants.{Row};
 ghost use Rattle.matrix.specs.Matrix.{empty};
 ghost use Rattle.seats.specs.Boards.{matrix, limits, seats_answer, made_limits};
 
@@ -24,8 +25,9 @@ impl<'a, T: Copy> SeatBoard<'a, T> {
     // An empty board; S is 0 where `seats_check` refuses.
     pub fn new(cells: &'a mut [T], side: usize) -> SeatBoard<'a, T>
         ensures effect { matrix result ≡ empty }
-        ensures limits { limits result ≡ made_limits (length cells.old) side }
         ensures cells { result.cells.now ≡ cells.old }
+        ensures limits { limits result ≡ made_limits (length cells.old) side }
+        ensures facing { result.facing ≡ Row }
         ensures memory { result.cells.ghost_name ≡ cells.entry.ghost_name }
     {
         let side = if seats_check(cells.len(), side).is_ok() {
