@@ -1,12 +1,12 @@
 -- Lines turned round.
-use Rattle.std.proofs.Common.{◌≡◌, ℕ, ◌+◌, ◌-◌, ◌*◌, ◌<◌, ◌≤◌, List, length, sym, refl, ap, ◌∙◌, ⊎_elim, add-mul, arith}
+use Rattle.std.proofs.Common.{◌≡◌, ℕ, ◌+◌, ◌-◌, ◌*◌, ◌/◌, ◌<◌, ◌≤◌, List, length, sym, refl, ap, ◌∙◌, ⊎_elim, add-mul, arith}
 use Rattle.std.specs.List.{slice_get}
 use Rattle.std.proofs.lemmas.Bool.{cases_eq, cases_lt}
 use Rattle.matrix.specs.Matrix.{Matrix, rotate_half}
 use Rattle.matrix.specs.Shapes.{rowwise}
 use Rattle.matrix.proofs.Products.{line_more, line_ends}
 use Rattle.matrix.proofs.Whole.{inside_in, rowwise_is, whole_rotate_half}
-use Rattle.flat.specs.Moves.{Facing, Reversed}
+use Rattle.flat.specs.Moves.{Exchanged, Facing, Reversed}
 
 -- m more cells change places, further in
 pub facing_more : {X : Type 0} (xs ys zs : List X) (p q n r m o : ℕ) → r + m ≡ q → n + m ≡ o → p + o ≤ r → Facing xs ys p q n → Facing ys zs (p + n) r m → Facing xs zs p r o
@@ -31,6 +31,23 @@ pub record Flipped {T : Type 0} (xs ys : List T) (outer n o : ℕ) : Type 0 wher
   pub low : (a b : ℕ) → a < o → a < outer → b < n → slice_get ys (a * n + b) ≡ slice_get xs ((outer - 1 - a) * n + b)
   pub high : (a b : ℕ) → outer - o ≤ a → a < outer → b < n → slice_get ys (a * n + b) ≡ slice_get xs ((outer - 1 - a) * n + b)
   pub amid : (a b : ℕ) → o ≤ a → a < outer - o → b < n → slice_get ys (a * n + b) ≡ slice_get xs (a * n + b)
+
+-- the next line from either end
+pub flipped_more : {T : Type 0} (xs ys zs : List T) (outer n o : ℕ) → o < outer / 2 → Flipped xs ys outer n o → Exchanged ys zs (o * n) ((outer - 1 - o) * n) n → Flipped xs zs outer n (o + 1)
+flipped_more xs ys zs outer n o half p q = record {
+  len = q.len ∙ p.len;
+  low = λ a b h i l. ⊎_elim
+      (λ (e : a ≡ o). ap (λ j. slice_get zs (j * n + b)) e ∙ q.first b l ∙ p.amid (outer - 1 - o) b (omega arith) (omega arith) l ∙ ap (λ j. slice_get xs ((outer - 1 - j) * n + b)) (sym e))
+      (λ (ne : a ≡ o → ⊥). q.below (a * n + b) (omega (arith, line_ends a o n (omega arith))) ∙ p.low a b (omega arith) i l)
+      (cases_eq a o);
+  high = λ a b h i l. ⊎_elim
+      (λ (e : a ≡ outer - 1 - o). ap (λ j. slice_get zs (j * n + b)) e ∙ q.second b l ∙ p.amid o b (omega arith) (omega arith) l ∙ ap (λ j. slice_get xs (j * n + b)) (omega arith))
+      (λ (ne : a ≡ outer - 1 - o → ⊥). q.above (a * n + b) (omega (arith, line_ends (outer - 1 - o) a n (omega arith))) ∙ p.high a b (omega arith) i l)
+      (cases_eq a (outer - 1 - o));
+  amid = λ a b h i l.
+      q.amid (a * n + b) (omega (arith, line_ends o a n (omega arith))) (omega (arith, line_ends a (outer - 1 - o) n (omega arith)))
+      ∙ p.amid a b (omega arith) (omega arith) l;
+}
 
 -- the first o lines are turned round
 pub record Mirrored {T : Type 0} (xs ys : List T) (n o : ℕ) : Type 0 where

@@ -1,10 +1,11 @@
 -- Stretches of flat cells moved and parted.
-use Rattle.std.proofs.Common.{◌≡◌, ℕ, ◌+◌, ◌-◌, ◌<◌, ◌≤◌, List, ◌++◌, length, take, drop, Option, Some, sym, refl, ap, subst, ◌∙◌, ⊎_elim, arith, rules}
+use Rattle.std.proofs.Common.{◌≡◌, ℕ, ◌+◌, ◌-◌, ◌<◌, ◌≤◌, List, ◌++◌, length, take, drop, get_or, set, reverse, Option, Some, sym, refl, ap, subst, ◌∙◌, ⊎_elim, arith, rules}
 use borrow.Rule.Slice.PartMut.{put_mid}
 use Rattle.std.specs.List.{slice_get, slice_range}
 use Rattle.std.proofs.lemmas.Bool.{cases_lt}
-use Rattle.std.proofs.lemmas.List.{places}
-use Rattle.matrix.proofs.Cells.{nth_same, nth_kept, gapped_below, gapped_at, gapped_above}
+use Rattle.std.proofs.lemmas.List.{places, length-set, length-reverse, get_or-reverse}
+use Rattle.std.proofs.lemmas.Option.{slice_get-get_or}
+use Rattle.matrix.proofs.Cells.{nth_same, nth_kept, nth_set_same, nth_set_other, gapped_below, gapped_at, gapped_above}
 use Rattle.flat.specs.Moves.{Copied, Filled, Parted}
 
 -- n cells of xs, which lay in a waiting list in between
@@ -33,6 +34,25 @@ unmoved xs from to n none = record {
   below = λ k h. refl;
   above = λ k h. refl;
 }
+
+-- one cell more, written at j
+pub copied_more : {X : Type 0} (xs ys src : List X) (from to n j : ℕ) (x : X) → j ≡ to + n → j < length xs → slice_get src (from + n) ≡ Some x → Copied xs ys src from to n → Copied xs (set ys j x) src from to (n + 1)
+copied_more xs ys src from to n j x e h is p = record {
+  len = length-set ys j x ∙ p.len;
+  moved = λ k l. ⊎_elim
+      (λ (b : k < n). nth_set_other ys j (to + k) x (omega arith) ∙ p.moved k b)
+      (λ (b : n ≤ k). ap (slice_get (set ys j x)) (omega arith) ∙ nth_set_same ys j x (omega (arith, p.len)) ∙ sym is ∙ ap (slice_get src) (omega arith))
+      (cases_lt k n);
+  below = λ k l. nth_set_other ys j k x (omega arith) ∙ p.below k l;
+  above = λ k l. nth_set_other ys j k x (omega arith) ∙ p.above k (omega arith);
+}
+
+-- of n cells turned round, the next one
+pub turned_read : {X : Type 0} (xs : List X) (n k : ℕ) (d : X) → length xs ≡ n → k < n → slice_get (reverse xs) (0 + k) ≡ Some (get_or xs (n - 1 - k) d)
+turned_read xs n k d e h =
+    ap (slice_get (reverse xs)) (omega arith)
+    ∙ slice_get-get_or (reverse xs) k d (omega (arith, length-reverse xs))
+    ∙ ap Some (get_or-reverse xs k d (omega arith) ∙ ap (λ m. get_or xs (m - 1 - k) d) e)
 
 -- of n cells that move, `done` have: the first of them, or in a move up the last
 pub record Strode {X : Type 0} (xs ys : List X) (from to n done : ℕ) : Type 0 where

@@ -32,7 +32,7 @@ fn sum(mut walk: LineWalk, g: &Grid<'_, u8>) -> u32 {
     let mut line = [0u8; 4];
     let n = read(&mut walk, g, &mut line);
     let mut sum = 0u32;
-    for x in line.iter().take(n) {
+    for x in &line[..n] {
         sum = sum.saturating_add(u32::from(*x));
     }
     sum
@@ -80,7 +80,7 @@ fn lines_walked(rt: HostRuntime) {
     }
 }
 
-// A line in one call, and the rest of the memory as it was; a line in two pieces.
+// A line in one call, and the rest of the memory as it was.
 #[test]
 fn lines_read(rt: HostRuntime) {
     let mut memory = [0u8; 16];
@@ -109,11 +109,19 @@ fn lines_read(rt: HostRuntime) {
         &line,
         &[1, 4, 6, 9],
     );
+}
+
+// A line in two pieces.
+#[test]
+fn line_in_pieces(rt: HostRuntime) {
+    let mut memory = [0u8; 16];
+    let g = lay(&mut memory, &[1, 2, 3, 4, 5, 6], 3, Order::RowMajor);
+    let mut line = [9u8; 4];
     if let Ok(mut walk) = iter_row(&g, 0) {
         equal(&rt, read(&mut walk, &g, &mut line[..2]), 2);
-        equal(&rt, line, [1, 2, 6, 9]);
+        equal(&rt, line, [1, 2, 9, 9]);
         equal(&rt, read(&mut walk, &g, &mut line), 1);
-        equal(&rt, line, [3, 2, 6, 9]);
+        equal(&rt, line, [3, 2, 9, 9]);
         equal(&rt, read(&mut walk, &g, &mut line), 0);
     }
 }

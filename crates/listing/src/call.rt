@@ -238,11 +238,11 @@ fn read_ground<'a>(words: &'a [&'a str]) -> Option<(Ground, &'a [&'a str])>
     ensures ground { Read SaysGround (texts words.now) (option_map (λ p. (p.0, texts p.1.now)) result) }
 {
     match words {
+        ["seats", side, rest @ ..] => Some((Ground::Seats(number(side)?), rest)),
         ["grid", order, cells, rest @ ..] => {
             let order: Order = order.parse().ok()?;
             Some((Ground::Grid(order, number(cells)?), rest))
         }
-        ["seats", side, rest @ ..] => Some((Ground::Seats(number(side)?), rest)),
         _ => None,
     }
 }

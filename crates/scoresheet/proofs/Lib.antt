@@ -1,3 +1,6 @@
+mod Listed
+mod Gains
+mod Sounds
 mod Whole
 mod Kept
 mod Planned

@@ -8,8 +8,8 @@ use Rattle.listing.specs.declared.call.Call.TheVariants as asked
 use Rattle.listing.specs.declared.wrong.Wrong.{Wrong}
 use Rattle.listing.specs.declared.wrong.Failure.{Failure}
 use Rattle.listing.specs.Calls.{texts}
-use Rattle.desk.specs.declared.lines.Line.{Line as Desked}
-use Rattle.desk.specs.Cells.{Gained}
+use Rattle.scoresheet.specs.declared.lines.Line.{Line as Desked}
+use Rattle.scoresheet.specs.Cells.{Gained}
 use Rattle.replay.specs.declared.call.Call.{Call}
 use Rattle.replay.specs.declared.call.Call.TheVariants.{Put, Insert, Remove, Transpose, Flip, StepBack, Publish, Reopen, Get, Size, Owed, Kept, Settled}
 use Rattle.replay.specs.declared.call.Answer.{Answer}

@@ -1,3 +1,6 @@
+pub mod Lists
+pub mod Cells
+pub mod Outcomes
 pub mod Plans
 pub mod Asks
 pub mod Rows

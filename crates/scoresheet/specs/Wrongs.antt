@@ -8,25 +8,15 @@ use Rattle.listing.specs.declared.wrong.Wrong.{Wrong}
 use Rattle.listing.specs.declared.wrong.Failure.{Failure}
 use Rattle.listing.specs.Calls.{texts}
 use Rattle.listing.specs.Spellings.{Nothing}
-use Rattle.desk.specs.Cells.{Gained}
+use Rattle.scoresheet.specs.Cells.{Gained}
 use Rattle.replay.specs.declared.call.Call.{Call}
-use Rattle.replay.specs.declared.call.Call.TheVariants.{Put, Insert, Remove, Transpose, Flip, StepBack, Publish, Reopen, Get, Size, Owed, Kept, Settled}
+use Rattle.replay.specs.declared.call.Call.TheVariants.{Reopen, Settled}
 
 -- a call that a new sheet has
 abbrev pub begins : {T : Type 0} → Call T → Bool
-begins (Put r c x) = true
-begins (Insert ax i g) = true
-begins (Remove ax i g) = true
-begins Transpose = true
-begins (Flip ax) = true
-begins (StepBack g) = true
-begins Publish = true
 begins Reopen = false
-begins (Get r c) = true
-begins Size = true
-begins Owed = true
-begins Kept = true
 begins Settled = false
+begins call = true
 
 -- the sheet's first call is among these
 abbrev pub begun_by : {T : Type 0} → List (Call T) → Bool

@@ -3,13 +3,13 @@
 // were answered lie in two slices, as the library takes the one and gives the other.
 ghost use Rattle.std.specs.Prelude.{◌≡◌, IfOk, IsOk};
 ghost use Rattle.std.specs.List.{slice_get, filter_map};
-ghost use Rattle.desk.specs.Outcomes.{Clean};
+ghost use Rattle.scoresheet.specs.Outcomes.{Clean};
 ghost use Rattle.scoresheet.specs.Plans.{AllAsked};
 ghost use Rattle.scoresheet.specs.Tells.{speech, first_speech, row_speech, counts, as_text, between_text, told_text, cell_told, row_told};
 
+use crate::output::Output;
 use crate::script::{Ask, Item, Plan, line_length};
 use cells::refusal::Refusal;
-use desk::output::Output;
 use flat::segment::Segment;
 use listing::answer::{Answer, Cells};
 use listing::name::Name;

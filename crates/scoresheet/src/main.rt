@@ -1,9 +1,8 @@
 // Reads a scorer's list and prints the answer to each of its lines.
 #![tactic(auto)]
 
-use crate::sheets::Kept;
+use crate::sheets::answer_text;
 use anyhow::anyhow;
-use desk::sheets::answer_text;
 use std::alloc::Global;
 use std::io::Read;
 use std::{env, fs};
@@ -11,8 +10,11 @@ use std::{env, fs};
 mod answers;
 mod grounds;
 mod help;
+mod lines;
+mod output;
 mod script;
 mod sheets;
+mod spelt;
 
 // Answers the list that the program is given, or prints its help.
 // It has no clause: what it is given and what it prints are outside contracts, and it only hands a text on.
@@ -28,7 +30,7 @@ fn run(rt: &HostRuntime) -> anyhow::Result<()> {
         }
     }
     let text = list(rt, rt.alloc(), file)?;
-    answer_text::<Kept>(rt, text.as_str())
+    answer_text(rt, text.as_str())
 }
 
 fn print(rt: &HostRuntime, help: &[&str]) -> anyhow::Result<()> {

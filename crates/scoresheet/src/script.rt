@@ -4,7 +4,7 @@ ghost use Rattle.std.specs.Prelude.{◌≡◌, ◌+◌, ◌-◌, [], ◌∷◌, 
 ghost use Rattle.std.specs.List.{list_any};
 ghost use Rattle.listing.specs.Calls.{texts};
 ghost use Rattle.listing.specs.Texts.{IsNoMemory};
-ghost use Rattle.desk.specs.Cells.{Gained};
+ghost use Rattle.scoresheet.specs.Cells.{Gained};
 ghost use Rattle.matrix.specs.Rules.{side_limit};
 ghost use Rattle.replay.specs.Tallies.{capped};
 ghost use Rattle.scoresheet.specs.Plans.{AllAsked};
@@ -12,8 +12,8 @@ ghost use Rattle.scoresheet.specs.Asks.{Adds, Becomes, Notes, Supplies, Unasked,
 ghost use Rattle.scoresheet.specs.Wrongs.{begun_by, TooLate, Misspelt, Mistaken, IfWrong};
 ghost use Rattle.scoresheet.specs.Unrolls.{waits, cells_asked, asked_again, pool_after, unrolled};
 
-use desk::lines::Line;
-use desk::spelt::read_cells;
+use crate::lines::Line;
+use crate::spelt::read_cells;
 use flat::segment::Segment;
 use listing::call::{Call as Asked, SheetKind};
 use listing::written::Written;

@@ -1,49 +1,104 @@
-// The sheets of a list.
-ghost use Rattle.std.specs.Prelude.{IfOk};
+// The sheets of a list, one after another.
+// kept: `lines` on each call, since it speaks of an output before and after it, so that no invariant says it.
+ghost use Rattle.std.specs.Prelude.{◌≡◌, [], IfOk, IsOk};
 ghost use Rattle.layouts.specs.Layouts.{memory_under, ground_limits};
+ghost use Rattle.scoresheet.specs.Outcomes.{Answerable, Answered, Begins, Clean, Sound};
 ghost use Rattle.scoresheet.specs.Plays.{PlaysPlan};
 
 use crate::answers::Played;
 use crate::grounds::Run;
+use crate::lines::{self, Line};
+use crate::output::Output;
 use crate::script::{Plan, Supply};
-use cells::kinds::Kind;
-use desk::lines::Line;
-use desk::output::Output;
-use desk::sheets::Sheets;
-use layouts::over::{cells_under, over};
-use listing::call::Fresh;
+use cells::kinds::{Kind, Passage, Penalty};
+use layouts::over::{cells_under, ground_check, over};
+use listing::answer::Answer;
+use listing::call::{Call, Fresh, SheetKind};
 use listing::written::Written;
+use listing::wrong::Wrong;
 use matrix::limits::SIDE;
 use replay::call::Answer as Said;
 use std::alloc::{AllocError, Global};
 
-// Sheets that step back.
-pub struct Kept;
+// Answers a list: well only where each of its lines is a call, or says nothing, and the first call makes a sheet.
+pub fn answer_text(rt: &HostRuntime, text: &str) -> anyhow::Result<()>
+    ensures sound { IsOk result → Answerable text.now }
+{
+    let heap = rt.alloc();
+    let words = lines::split(heap, text)?;
+    let lines = lines::read(heap, words.as_slice())?;
+    answer(rt, lines.as_slice())
+}
 
-impl Sheets for Kept {
-    // Reads the sheet's lines, runs them, and prints the answers. Where a line asks for more than its call answers, a first run
-    // tells the sizes, and the answers are those of a second.
-    fn answer<'a, T: Written>(
-        mut out: Output<'a>,
-        fresh: Fresh,
-        lines: &'a [Line<'a>],
-    ) -> anyhow::Result<Output<'a>> {
-        let heap = out.heap;
-        let mut plan: Plan<T> = Plan::new(heap, SIDE);
-        let mut supply: Supply<T> = Supply::new(heap);
-        for line in lines {
-            plan.read(&mut supply, fresh.kind, *line)?;
-        }
-        let first = play(heap, fresh, &supply, &plan)?;
-        if plan.is_unrolled() {
-            first.print(&mut out, &plan)?;
-            return Ok(out);
-        }
-        let plan = plan.unrolled(heap, first.answers.as_slice())?;
-        let second = play(heap, fresh, &supply, &plan)?;
-        second.print(&mut out, &plan)?;
-        Ok(out)
+// Answers all lines. A sheet answers its own, from the line that makes it up to the one that makes the next.
+fn answer(rt: &HostRuntime, lines: &[Line<'_>]) -> anyhow::Result<()>
+    ensures sound { IsOk result → Sound lines.now }
+    ensures sheet { IsOk result → Begins lines.now }
+{
+    let mut out = Output::new(rt);
+    for sheet in lines.chunk_by(|_, line| !matches!(line.call, Ok(Call::New(_)))) {
+        out = answer_group(out, sheet)?;
     }
+    out.finish()
+}
+
+// Answers the lines of one sheet, of which the first makes it, or the lines before the first sheet.
+fn answer_group<'a>(mut out: Output<'a>, lines: &'a [Line<'a>]) -> anyhow::Result<Output<'a>>
+    ensures lines { IfOk result (λ o. Answered lines.now out.entry o) }
+    ensures sheet { IfOk result (λ o. Clean o → Begins lines.now) }
+{
+    let [first, rest @ ..] = lines else {
+        return Ok(out);
+    };
+    let first = *first;
+    let Ok(Call::New(fresh)) = first.call else {
+        return no_sheet(out, lines);
+    };
+    let made = ground_check(fresh.layout.ground);
+    out.answer::<Passage>(Answer::Done(made))?;
+    match (made, fresh.kind) {
+        (Err(_), _) => no_sheet(out, rest),
+        (Ok(()), SheetKind::Passages) => answer_sheet::<Passage>(out, fresh, rest),
+        (Ok(()), SheetKind::Penalties) => answer_sheet::<Penalty>(out, fresh, rest),
+    }
+}
+
+// Lines that no sheet stands before: each is answered by an error.
+fn no_sheet<'a>(mut out: Output<'a>, lines: &[Line<'_>]) -> anyhow::Result<Output<'a>>
+    ensures lines { IfOk result (λ o. Answered lines.now out.entry o) }
+    ensures none { IfOk result (λ o. Clean o → lines.now ≡ []) }
+{
+    for line in lines {
+        let wrong = line.call.err().unwrap_or(Wrong::NoSheet);
+        out.error(line.number, wrong)?;
+    }
+    Ok(out)
+}
+
+// Reads the lines of a sheet that is made, runs them, and prints the answers. Where a line asks for more than its call answers, a
+// first run tells the sizes, and the answers are those of a second.
+fn answer_sheet<'a, T: Written>(
+    mut out: Output<'a>,
+    fresh: Fresh,
+    lines: &'a [Line<'a>],
+) -> anyhow::Result<Output<'a>>
+    ensures lines { IfOk result (λ o. Answered lines.now out.entry o) }
+{
+    let heap = out.heap;
+    let mut plan: Plan<T> = Plan::new(heap, SIDE);
+    let mut supply: Supply<T> = Supply::new(heap);
+    for line in lines {
+        plan.read(&mut supply, fresh.kind, *line)?;
+    }
+    let first = play(heap, fresh, &supply, &plan)?;
+    if plan.is_unrolled() {
+        first.print(&mut out, &plan)?;
+        return Ok(out);
+    }
+    let plan = plan.unrolled(heap, first.answers.as_slice())?;
+    let second = play(heap, fresh, &supply, &plan)?;
+    second.print(&mut out, &plan)?;
+    Ok(out)
 }
 
 // Runs a plan on a new sheet.

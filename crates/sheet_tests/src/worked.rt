@@ -210,47 +210,75 @@ impl SheetCase for KeepFull {
     }
 }
 
-// Memory that is shorter than the line: a removal and a step back are refused, and leave all as it was.
-// kept: `assert_eq!` written out, since by `equal` the length of the memory stays open at the last step back
+// Memory that is shorter than the line that goes out: refused, and all is left as it was.
 #[derive(Clone, Copy)]
-struct Short;
+struct ShortOut;
 
-impl SheetCase for Short {
+impl SheetCase for ShortOut {
     fn on_sheet<B: Board<Cell = Penalty> + Drop, K: Keep<Cell = Penalty> + Drop>(
         &self,
         rt: &impl Abort,
         mut board: B,
         keep: K,
     ) {
+        let mut one = [Penalty(-1); 1];
+        let mut two = [Penalty(-1); 2];
+        lay_two(rt, &mut board);
+        let mut sheet = OpenSheet::new(board, keep);
+        equal(
+            rt,
+            sheet.remove(Axis::Row, 0, &mut two),
+            Err(Refusal::Short),
+        );
+        equal(
+            rt,
+            sheet.remove(Axis::Col, 0, &mut one),
+            Err(Refusal::Short),
+        );
+        equal(rt, one, [Penalty(-1); 1]);
+        equal(rt, two, [Penalty(-1); 2]);
+        stands(rt, &sheet, &[&[1, 2, 3], &[4, 5, 6]], 0, 0);
+    }
+}
+
+// Memory that is shorter than the line that a step back takes out: refused, and all is left as it was.
+#[derive(Clone, Copy)]
+struct ShortBack;
+
+impl SheetCase for ShortBack {
+    fn on_sheet<B: Board<Cell = Penalty> + Drop, K: Keep<Cell = Penalty> + Drop>(
+        &self,
+        rt: &impl Abort,
+        mut board: B,
+        keep: K,
+    ) {
+        let mut one = [Penalty(-1); 1];
+        let mut two = [Penalty(-1); 2];
+        let mut three = [Penalty(-1); 3];
         let mut memory = BLANK;
         lay_two(rt, &mut board);
         let mut sheet = OpenSheet::new(board, keep);
-        assert_eq!(rt;
-            sheet.remove(Axis::Row, 0, &mut memory[..2]),
-            Err(Refusal::Short)
-        );
-        assert_eq!(rt;
-            sheet.remove(Axis::Col, 0, &mut memory[..1]),
-            Err(Refusal::Short)
-        );
-        assert_eq!(rt; memory, BLANK);
-        stands(rt, &sheet, &[&[1, 2, 3], &[4, 5, 6]], 0, 0);
-        assert_eq!(rt;
+        equal(
+            rt,
             sheet.insert(Axis::Col, 1, &[Penalty(10), Penalty(11)]),
-            Ok(())
+            Ok(()),
         );
-        assert_eq!(rt; sheet.step_back(&mut memory[..1]), Err(Refusal::Short));
-        assert_eq!(rt; memory, BLANK);
+        equal(rt, sheet.step_back(&mut one), Err(Refusal::Short));
+        equal(rt, one, [Penalty(-1); 1]);
         stands(rt, &sheet, &[&[1, 10, 2, 3], &[4, 11, 5, 6]], 1, 0);
-        assert_eq!(rt; sheet.remove(Axis::Row, 1, &mut memory), Ok(()));
-        memory = BLANK;
-        assert_eq!(rt; sheet.step_back(&mut memory[..3]), Err(Refusal::Short));
-        assert_eq!(rt; memory, BLANK);
+        equal(rt, sheet.remove(Axis::Row, 1, &mut memory), Ok(()));
+        equal(rt, sheet.step_back(&mut three), Err(Refusal::Short));
+        equal(rt, three, [Penalty(-1); 3]);
         stands(rt, &sheet, &[&[1, 10, 2, 3]], 2, 4);
-        assert_eq!(rt; sheet.step_back(&mut memory), Ok(()));
-        assert_eq!(rt; memory, [Penalty(4), Penalty(11), Penalty(5), Penalty(6)]);
-        assert_eq!(rt; sheet.step_back(&mut memory[..2]), Ok(()));
-        assert_eq!(rt; memory, [Penalty(10), Penalty(11), Penalty(5), Penalty(6)]);
+        memory = BLANK;
+        equal(rt, sheet.step_back(&mut memory), Ok(()));
+        equal(
+            rt,
+            memory,
+            [Penalty(4), Penalty(11), Penalty(5), Penalty(6)],
+        );
+        equal(rt, sheet.step_back(&mut two), Ok(()));
+        equal(rt, two, [Penalty(10), Penalty(11)]);
         stands(rt, &sheet, &[&[1, 2, 3], &[4, 5, 6]], 0, 0);
     }
 }
@@ -326,6 +354,11 @@ fn keep_full(rt: HostRuntime) {
 }
 
 #[test]
-fn memory_too_short(rt: HostRuntime) {
-    everywhere(&rt, Short);
+fn memory_too_short_for_a_removal(rt: HostRuntime) {
+    everywhere(&rt, ShortOut);
+}
+
+#[test]
+fn memory_too_short_for_a_step_back(rt: HostRuntime) {
+    everywhere(&rt, ShortBack);
 }

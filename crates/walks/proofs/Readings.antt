@@ -1,8 +1,8 @@
 -- A walk that is read into memory, one item more.
-use Rattle.std.proofs.Common.{◌≡◌, ℕ, zero, suc, ◌+◌, ◌<◌, ◌≤◌, min, List, [], ◌∷◌, length, take, drop, set, Some, Option, sym, refl, ap, ◌∙◌, arith, length-drop, length-take-le}
+use Rattle.std.proofs.Common.{◌≡◌, ℕ, zero, suc, ◌+◌, ◌<◌, ◌≤◌, min, List, [], ◌∷◌, length, take, drop, set, Some, None, Option, sym, refl, ap, ◌∙◌, ⊎_elim, take_all, arith, rules, length-drop, length-take-le}
 use Rattle.std.specs.List.{slice_get}
-use Rattle.std.proofs.lemmas.List.{drop-drop}
-use Rattle.std.proofs.lemmas.Option.{slice_get_within}
+use Rattle.std.proofs.lemmas.List.{drop-drop, drop_all}
+use Rattle.std.proofs.lemmas.Option.{slice_get_within, slice_get_cases}
 use Rattle.matrix.specs.Matrix.{over}
 use Rattle.matrix.proofs.Stretches.{take_one_more, over_one_more}
 
@@ -17,6 +17,13 @@ pub record Read {S X : Type 0} (moved : ℕ → S → S) (start now : S) (all le
   pub enough : k ≤ length all
   pub rest : left ≡ drop k all
   pub taken : memory ≡ over (take k all) before
+
+-- after k steps nothing more comes
+pub record Ended {S X : Type 0} (moved : ℕ → S → S) (start now : S) (all left before memory : List X) (k : ℕ) : Type 0 where
+  pub count : k ≡ min (length before) (length all)
+  pub state : now ≡ moved k start
+  pub rest : left ≡ drop (length before) all
+  pub taken : memory ≡ over (take (length before) all) before
 
 module _ {S X : Type 0} (moved : ℕ → S → S) (further : (w : S) (j k : ℕ) → moved k (moved j w) ≡ moved (j + k) w) (start : S) (all before : List X) where
   module _ (k : ℕ) (now next : S) (left left' memory : List X) (p : Read moved start now all left before memory k) (step : next ≡ moved (min 1 (length left)) now) (on : left' ≡ drop 1 left) where
@@ -33,4 +40,18 @@ module _ {S X : Type 0} (moved : ℕ → S → S) (further : (w : S) (j k : ℕ)
           enough = omega arith;
           rest = rest_on;
           taken = ap (λ ys. set ys k x) p.taken ∙ over_one_more (take k all) before k x (sym (length-take-le k all (omega arith))) h ∙ ap (λ ys. over ys before) (sym (take_one_more all k x found));
+        }
+
+    -- the walk is at its end
+    pub read_end : (o : Option X) → o ≡ None → o ≡ slice_get left 0 → k < length before → Ended moved start next all left' before memory k
+    read_end o i e h =
+        let none : slice_get all k ≡ None = sym (sym i ∙ e ∙ ap (λ ys. slice_get ys 0) p.rest ∙ front_drop k all) in
+        let past : length all ≤ k = ⊎_elim (λ found. search (rules, sym none ∙ found.2)) (λ past. past.0) (slice_get_cases all k).1 in
+        let still : min 1 (length left) ≡ 0 = omega (arith, ap length p.rest, length-drop k all) in
+        let same : k + 0 ≡ k = omega arith in
+        record {
+          count = omega (arith, p.enough);
+          state = step ∙ ap (λ n. moved n now) still ∙ ap (moved 0) p.state ∙ further start k 0 ∙ ap (λ n. moved n start) same;
+          rest = rest_on ∙ drop_all (k + 1) all (omega arith) ∙ sym (drop_all (length before) all (omega arith));
+          taken = p.taken ∙ ap (λ ys. over ys before) (take_all k all past ∙ sym (take_all (length before) all (omega arith)));
         }

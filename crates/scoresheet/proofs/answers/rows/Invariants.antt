@@ -1,4 +1,4 @@
-use Rattle.desk.specs.Outcomes.{Clean}
+use Rattle.scoresheet.specs.Outcomes.{Clean}
 use Rattle.scoresheet.proofs.answers.rows.Given as goal
 
 abbrev pub invariant-loop-r : goal.invariant-loop-r

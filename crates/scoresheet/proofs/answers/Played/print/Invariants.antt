@@ -1,5 +1,5 @@
 use Rattle.std.proofs.Common.{take}
-use Rattle.desk.specs.Outcomes.{Clean}
+use Rattle.scoresheet.specs.Outcomes.{Clean}
 use Rattle.scoresheet.specs.Plans.{AllAsked}
 use Rattle.scoresheet.proofs.answers.Played.print.Given as goal
 

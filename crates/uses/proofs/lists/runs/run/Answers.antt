@@ -6,6 +6,9 @@ use Rattle.uses.specs.Lists.{State, next, reply}
 use Rattle.uses.proofs.lists.runs.run.Goals as goal
 use Rattle.uses.proofs.lists.runs.run.Goals.{in-Some, in_default}
 
+pub loop-k-init : goal.loop-k-init
+loop-k-init g c = record { limits = refl; state = refl; said = refl }
+
 pub loop-k-preserved : goal.loop-k-preserved
 loop-k-preserved g c =
     let a = c.args in

@@ -1,3 +1,0 @@
-pub mod Lists
-pub mod Cells
-pub mod Outcomes

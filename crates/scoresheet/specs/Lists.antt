@@ -1,0 +1,27 @@
+-- The words of a list's lines, and what they say.
+use Rattle.std.specs.Prelude.{◌≡◌, ℕ, ◌+◌, List, [], ◌∷◌, ◌==◌, not, length, filter, flat_map, Result, Some, Ok, Err}
+use Rattle.std.specs.List.{before_first, slice_split}
+use Rattle.listing.specs.declared.call.Call.{Call}
+use Rattle.listing.specs.declared.wrong.Wrong.{Wrong}
+use Rattle.listing.specs.Calls.{Reads}
+use Rattle.scoresheet.specs.declared.lines.Line.{Line}
+
+-- the text of a line up to its comment
+abbrev pub uncommented : List ℕ → List ℕ
+uncommented line = before_first (λ b. b == 35) line
+
+-- the words of a line up to its comment: spaces and tabs separate them, and an empty part is none
+abbrev pub words : List ℕ → List (List ℕ)
+words line = filter (λ word. not (length word == 0)) (flat_map (λ part. slice_split (λ b. b == 9) part) (slice_split (λ b. b == 32) (uncommented line)))
+
+-- what a line that has a word says
+abbrev pub Says : List (List ℕ) → Result Call Wrong → Type 0
+Says ws (Ok call) = Reads ws (Ok (Some call))
+Says ws (Err wrong) = Reads ws (Err wrong)
+
+-- the lines from line n on that have a word, each with its number and what it says
+abbrev pub AreLines : ℕ → List (List (List ℕ)) → List Line → Type 0
+AreLines n [] ls = ls ≡ []
+AreLines n ([] ∷ more) ls = AreLines (n + 1) more ls
+AreLines n ((w ∷ ws) ∷ more) [] = ⊥
+AreLines n ((w ∷ ws) ∷ more) (l ∷ ls) = (l.number ≡ n) × Says (w ∷ ws) l.call × AreLines (n + 1) more ls
