@@ -5,3 +5,6 @@ mod Whole
 mod Kept
 mod Planned
 mod Unrolling
+mod Tellings
+mod Noted
+mod Grouped

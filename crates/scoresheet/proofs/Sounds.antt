@@ -1,5 +1,5 @@
 -- Lines that are answered one group after another.
-use Rattle.std.proofs.Common.{◌≡◌, List, [], ◌∷◌, ◌++◌, length, IsOk, ap, ◌∙◌, sym, subst, rules, refl}
+use Rattle.std.proofs.Common.{◌≡◌, List, [], ◌∷◌, ◌++◌, length, IsOk, ap, ◌∙◌, sym, subst, rules}
 use Rattle.std.proofs.lemmas.List.{append_assoc, append-nil}
 use Rattle.std.proofs.lemmas.List.Elements.{All-append}
 use Rattle.scoresheet.specs.declared.lines.Line.{Line}

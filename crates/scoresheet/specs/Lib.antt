@@ -8,3 +8,5 @@ pub mod Plays
 pub mod Tells
 pub mod Unrolls
 pub mod Wrongs
+pub mod Pages
+pub mod Sheets

@@ -1,11 +1,12 @@
 // The answers of a sheet as they are printed.
-// kept: `outcome` on each call, since it speaks of an output before and after it, so that no invariant says it. Calls and what they
-// were answered lie in two slices, as the library takes the one and gives the other.
-ghost use Rattle.std.specs.Prelude.{◌≡◌, IfOk, IsOk};
+// kept: `text` and `outcome` on each call, since they speak of an output before and after it, so that no invariant says them.
+// Calls and what they were answered lie in two slices, as the library takes the one and gives the other.
+ghost use Rattle.std.specs.Prelude.{◌≡◌, ◌++◌, IfOk, IsOk, string_bytes};
 ghost use Rattle.std.specs.List.{slice_get, filter_map};
 ghost use Rattle.scoresheet.specs.Outcomes.{Clean};
 ghost use Rattle.scoresheet.specs.Plans.{AllAsked};
 ghost use Rattle.scoresheet.specs.Tells.{speech, first_speech, row_speech, counts, as_text, between_text, told_text, cell_told, row_told};
+ghost use Rattle.scoresheet.specs.Pages.{printed, item_lines, with_all, rows_lines, page};
 
 use crate::output::Output;
 use crate::script::{Ask, Item, Plan, line_length};
@@ -30,7 +31,8 @@ pub struct Played<T: Drop> {
 
 impl<T: Written> Played<T> {
     // The answers of the whole sheet, with its counts on the way.
-    pub fn print(&self, out: &mut Output<'_>, plan: &Plan<T>) -> anyhow::Result<()>
+    pub fn print(&self, out: &mut Output, plan: &Plan<T>) -> Result<(), AllocError>
+        ensures text { IfOk result (λ _. string_bytes out.new.text ≡ string_bytes out.old.text ++ page T.Written.spelling self.now plan.now) }
         ensures outcome { IfOk result (λ _. Clean out.new → Clean out.old × AllAsked plan.now.items.items) }
     {
         let mut tally = Tally::new();
@@ -38,9 +40,7 @@ impl<T: Written> Played<T> {
             let calls = item.part.of(plan.calls.as_slice());
             let said = item.part.of(self.answers.as_slice());
             self.print_item(out, tally, *item, calls, said)?;
-            for (call, said) in calls.iter().zip(said.iter()) {
-                tally = tally.with(*call, *said);
-            }
+            tally = tallied(tally, calls, said);
         }
         Ok(())
     }
@@ -48,12 +48,13 @@ impl<T: Written> Played<T> {
     // The answer of a line, and the rows of a sheet that is shown.
     fn print_item(
         &self,
-        out: &mut Output<'_>,
+        out: &mut Output,
         tally: Tally,
         item: Item,
         calls: &[Call<T>],
         said: &[Said<T>],
-    ) -> anyhow::Result<()>
+    ) -> Result<(), AllocError>
+        ensures text { IfOk result (λ _. string_bytes out.new.text ≡ string_bytes out.old.text ++ item_lines T.Written.spelling self.now tally item calls.now said.now) }
         ensures outcome { IfOk result (λ _. Clean out.new → Clean out.old × IsOk item.ask) }
     {
         tell(out, item.number, self.answer(tally, item.ask, calls, said))?;
@@ -114,18 +115,29 @@ impl<T: Written> Played<T> {
     }
 }
 
-// Prints the answer of the line of that number, or what is wrong with the line.
+// The answer of the line of that number, or what is wrong with the line.
 fn tell<T: Written>(
-    out: &mut Output<'_>,
+    out: &mut Output,
     number: usize,
     answer: Result<Answer<'_, T>, Wrong>,
-) -> anyhow::Result<()>
+) -> Result<(), AllocError>
+    ensures text { IfOk result (λ _. string_bytes out.new.text ≡ string_bytes out.old.text ++ printed number (as_text T.Written.spelling answer.entry)) }
     ensures outcome { IfOk result (λ _. Clean out.new → Clean out.old × IsOk answer.entry) }
 {
     match answer {
         Ok(answer) => out.answer(answer),
         Err(wrong) => out.error(number, wrong),
     }
+}
+
+// The counts with each of these calls and what it said.
+fn tallied<T: Written>(mut tally: Tally, calls: &[Call<T>], said: &[Said<T>]) -> Tally
+    ensures answer { result ≡ with_all tally calls.now said.now }
+{
+    for (call, said) in calls.iter().zip(said.iter()) {
+        tally = tally.with(*call, *said);
+    }
+    tally
 }
 
 // What the first call of a line says.
@@ -168,8 +180,9 @@ fn spoken<'a, T: Written>(call: Call<T>, said: Said<T>) -> Result<Answer<'a, T>,
 }
 
 // Every row of a sheet, of which the size was said and then the cells.
-fn rows<T: Written>(out: &mut Output<'_>, said: &[Said<T>]) -> anyhow::Result<()>
-    ensures outcome { IfOk result (λ _. Clean out.new → Clean out.old) }
+fn rows<T: Written>(out: &mut Output, said: &[Said<T>]) -> Result<(), AllocError>
+    ensures text { IfOk result (λ _. string_bytes out.new.text ≡ string_bytes out.old.text ++ rows_lines T.Written.spelling said.now) }
+    ensures outcome { out.new.outcome ≡ out.old.outcome }
 {
     let [Said::Sized(rows, _), ..] = said else {
         return Ok(());

@@ -1,7 +1,10 @@
 // Reads a scorer's list and prints the answer to each of its lines.
 #![tactic(auto)]
 
-use crate::sheets::answer_text;
+ghost use Rattle.std.specs.Prelude.{IsOk};
+ghost use Rattle.scoresheet.specs.Outcomes.{Answerable};
+
+use crate::sheets::answers;
 use anyhow::anyhow;
 use std::alloc::Global;
 use std::io::Read;
@@ -17,7 +20,7 @@ mod sheets;
 mod spelt;
 
 // Answers the list that the program is given, or prints its help.
-// It has no clause: what it is given and what it prints are outside contracts, and it only hands a text on.
+// It has no clause: what it is given is outside contracts, and it only hands a text on.
 fn run(rt: &HostRuntime) -> anyhow::Result<()> {
     let mut words = env::args(rt)?.skip(1);
     let file = words.next();
@@ -30,7 +33,16 @@ fn run(rt: &HostRuntime) -> anyhow::Result<()> {
         }
     }
     let text = list(rt, rt.alloc(), file)?;
-    answer_text(rt, text.as_str())
+    answer_list(rt, text.as_str())
+}
+
+// Prints the answers of a list: ends well only where each of its lines is a call, or says nothing, and the first call makes a sheet.
+fn answer_list(rt: &HostRuntime, text: &str) -> anyhow::Result<()>
+    ensures sound { IsOk result → Answerable text.now }
+{
+    let out = answers(rt.alloc(), text)?;
+    print!(rt; "{}", out.text)?;
+    out.finish()
 }
 
 fn print(rt: &HostRuntime, help: &[&str]) -> anyhow::Result<()> {

@@ -1,52 +1,56 @@
-// What a program prints, one line for each call.
-ghost use Rattle.std.specs.Prelude.{◌≡◌, ◌↔◌, Err, IsOk};
+// What the program prints, one line for each call, and more for a sheet that is shown.
+ghost use Rattle.std.specs.Prelude.{◌≡◌, ◌↔◌, [], ◌++◌, Err, IfOk, IsOk, string_bytes};
 ghost use Rattle.scoresheet.specs.Outcomes.{Clean};
+ghost use Rattle.listing.specs.Lines.{answer_text};
+ghost use Rattle.scoresheet.specs.Pages.{answer_line, error_line};
 
 use anyhow::anyhow;
 use listing::answer::Answer;
 use listing::written::Written;
 use listing::wrong::Wrong;
-use std::alloc::Global;
+use std::alloc::{AllocError, Global};
+use std::fmt::Write;
 
-// Standard output, the last error that has gone there, and the memory for what is printed.
-#[derive(Clone, Copy)]
-pub struct Output<'a> {
+// The lines so far, the last error among them, and the memory for more.
+#[derive(Drop)]
+pub struct Output {
     pub heap: Global,
-    rt: &'a HostRuntime,
+    pub text: String,
     outcome: Result<(), Wrong>,
 }
 
-impl<'a> Output<'a> {
-    pub fn new(rt: &'a HostRuntime) -> Output<'a>
+impl Output {
+    pub fn new(heap: Global) -> Output
+        ensures text { string_bytes result.text ≡ [] }
         ensures outcome { Clean result }
     {
         Output {
-            heap: rt.alloc(),
-            rt,
+            heap,
+            text: String::new(heap),
             outcome: Ok(()),
         }
     }
 
     // An answer that is no error.
-    pub fn answer<T: Written>(&mut self, answer: Answer<'_, T>) -> anyhow::Result<()>
+    pub fn answer<T: Written>(&mut self, answer: Answer<'_, T>) -> Result<(), AllocError>
+        ensures text { IfOk result (λ _. string_bytes self.new.text ≡ string_bytes self.old.text ++ answer_line (answer_text T.Written.spelling answer.entry)) }
         ensures outcome { self.new.outcome ≡ self.old.outcome }
     {
-        println!(self.rt; "{answer}")?;
-        Ok(())
+        writeln!(self.text, "{answer}")
     }
 
     // The answer to the line of that number in the list, which is an error.
-    pub fn error(&mut self, number: usize, wrong: Wrong) -> anyhow::Result<()>
+    pub fn error(&mut self, number: usize, wrong: Wrong) -> Result<(), AllocError>
+        ensures text { IfOk result (λ _. string_bytes self.new.text ≡ string_bytes self.old.text ++ error_line number wrong) }
         ensures outcome { self.new.outcome ≡ Err wrong }
     {
         self.outcome = Err(wrong);
-        println!(self.rt; "error {number} {wrong}")?;
-        Ok(())
+        writeln!(self.text, "error {number} {wrong}")
     }
 
     // Ends the answers: an error among them is the program's.
     pub fn finish(self) -> anyhow::Result<()>
-        ensures outcome { IsOk result ↔ Clean self.entry }
+        ensures outcome { IsOk result ↔ Clean self }
     {
         match self.outcome {
             Ok(()) => Ok(()),

@@ -1,9 +1,11 @@
 // The sheets of a list, one after another.
-// kept: `lines` on each call, since it speaks of an output before and after it, so that no invariant says it.
-ghost use Rattle.std.specs.Prelude.{◌≡◌, [], IfOk, IsOk};
+// kept: `text` and `lines` on each call, since they speak of an output before and after it, so that no invariant says them.
+ghost use Rattle.std.specs.Prelude.{◌≡◌, [], ◌++◌, IfOk, IsOk, string_bytes};
 ghost use Rattle.layouts.specs.Layouts.{memory_under, ground_limits};
 ghost use Rattle.scoresheet.specs.Outcomes.{Answerable, Answered, Begins, Clean, Sound};
 ghost use Rattle.scoresheet.specs.Plays.{PlaysPlan};
+ghost use Rattle.scoresheet.specs.Pages.{unsheeted_lines};
+ghost use Rattle.scoresheet.specs.Sheets.{Prints, SheetText, GroupText, GroupsText, ListText, sheets};
 
 use crate::answers::Played;
 use crate::grounds::Run;
@@ -20,35 +22,37 @@ use matrix::limits::SIDE;
 use replay::call::Answer as Said;
 use std::alloc::{AllocError, Global};
 
-// Answers a list: well only where each of its lines is a call, or says nothing, and the first call makes a sheet.
-pub fn answer_text(rt: &HostRuntime, text: &str) -> anyhow::Result<()>
-    ensures sound { IsOk result → Answerable text.now }
+// What a list is answered: without an error only where each of its lines is a call, or says nothing, and the first call makes a sheet.
+pub fn answers(heap: Global, text: &str) -> Result<Output, AllocError>
+    ensures text { IfOk result (λ out. ListText text.now (string_bytes out.text)) }
+    ensures sound { IfOk result (λ out. Clean out → Answerable text.now) }
 {
-    let heap = rt.alloc();
     let words = lines::split(heap, text)?;
     let lines = lines::read(heap, words.as_slice())?;
-    answer(rt, lines.as_slice())
+    answer(heap, lines.as_slice())
 }
 
 // Answers all lines. A sheet answers its own, from the line that makes it up to the one that makes the next.
-fn answer(rt: &HostRuntime, lines: &[Line<'_>]) -> anyhow::Result<()>
-    ensures sound { IsOk result → Sound lines.now }
-    ensures sheet { IsOk result → Begins lines.now }
+fn answer(heap: Global, lines: &[Line<'_>]) -> Result<Output, AllocError>
+    ensures text { IfOk result (λ out. GroupsText (sheets lines.now) (string_bytes out.text)) }
+    ensures sound { IfOk result (λ out. Clean out → Sound lines.now) }
+    ensures sheet { IfOk result (λ out. Clean out → Begins lines.now) }
 {
-    let mut out = Output::new(rt);
+    let mut out = Output::new(heap);
     for sheet in lines.chunk_by(|_, line| !matches!(line.call, Ok(Call::New(_)))) {
-        out = answer_group(out, sheet)?;
+        answer_group(&mut out, sheet)?;
     }
-    out.finish()
+    Ok(out)
 }
 
 // Answers the lines of one sheet, of which the first makes it, or the lines before the first sheet.
-fn answer_group<'a>(mut out: Output<'a>, lines: &'a [Line<'a>]) -> anyhow::Result<Output<'a>>
-    ensures lines { IfOk result (λ o. Answered lines.now out.entry o) }
-    ensures sheet { IfOk result (λ o. Clean o → Begins lines.now) }
+fn answer_group<'a>(out: &mut Output, lines: &'a [Line<'a>]) -> Result<(), AllocError>
+    ensures text { IfOk result (λ _. Prints (GroupText lines.now) out.old out.new) }
+    ensures lines { IfOk result (λ _. Answered lines.now out.old out.new) }
+    ensures sheet { IfOk result (λ _. Clean out.new → Begins lines.now) }
 {
     let [first, rest @ ..] = lines else {
-        return Ok(out);
+        return Ok(());
     };
     let first = *first;
     let Ok(Call::New(fresh)) = first.call else {
@@ -64,25 +68,27 @@ fn answer_group<'a>(mut out: Output<'a>, lines: &'a [Line<'a>]) -> anyhow::Resul
 }
 
 // Lines that no sheet stands before: each is answered by an error.
-fn no_sheet<'a>(mut out: Output<'a>, lines: &[Line<'_>]) -> anyhow::Result<Output<'a>>
-    ensures lines { IfOk result (λ o. Answered lines.now out.entry o) }
-    ensures none { IfOk result (λ o. Clean o → lines.now ≡ []) }
+fn no_sheet(out: &mut Output, lines: &[Line<'_>]) -> Result<(), AllocError>
+    ensures text { IfOk result (λ _. string_bytes out.new.text ≡ string_bytes out.old.text ++ unsheeted_lines lines.now) }
+    ensures lines { IfOk result (λ _. Answered lines.now out.old out.new) }
+    ensures none { IfOk result (λ _. Clean out.new → lines.now ≡ []) }
 {
     for line in lines {
         let wrong = line.call.err().unwrap_or(Wrong::NoSheet);
         out.error(line.number, wrong)?;
     }
-    Ok(out)
+    Ok(())
 }
 
 // Reads the lines of a sheet that is made, runs them, and prints the answers. Where a line asks for more than its call answers, a
 // first run tells the sizes, and the answers are those of a second.
 fn answer_sheet<'a, T: Written>(
-    mut out: Output<'a>,
+    out: &mut Output,
     fresh: Fresh,
     lines: &'a [Line<'a>],
-) -> anyhow::Result<Output<'a>>
-    ensures lines { IfOk result (λ o. Answered lines.now out.entry o) }
+) -> Result<(), AllocError>
+    ensures text { IfOk result (λ _. Prints (SheetText T.Written.spells T.Written.spelling fresh lines.now) out.old out.new) }
+    ensures lines { IfOk result (λ _. Answered lines.now out.old out.new) }
 {
     let heap = out.heap;
     let mut plan: Plan<T> = Plan::new(heap, SIDE);
@@ -92,13 +98,11 @@ fn answer_sheet<'a, T: Written>(
     }
     let first = play(heap, fresh, &supply, &plan)?;
     if plan.is_unrolled() {
-        first.print(&mut out, &plan)?;
-        return Ok(out);
+        return first.print(out, &plan);
     }
     let plan = plan.unrolled(heap, first.answers.as_slice())?;
     let second = play(heap, fresh, &supply, &plan)?;
-    second.print(&mut out, &plan)?;
-    Ok(out)
+    second.print(out, &plan)
 }
 
 // Runs a plan on a new sheet.
