@@ -1,5 +1,5 @@
 // A board made of its layout, and work that is written once for any board.
-ghost use Rattle.std.specs.Prelude.{◌≡◌, length};
+ghost use Rattle.std.specs.Prelude.{◌≡◌, ◌≤◌, ◌%◌, length};
 ghost use Rattle.matrix.specs.declared.limits.Limits.{Limits};
 ghost use Rattle.matrix.specs.Matrix.{Matrix, empty};
 ghost use Rattle.layouts.specs.Layouts.{memory_under, ground_answer, ground_limits};
@@ -58,17 +58,23 @@ pub fn over<T: Copy, K: Work<T>>(layout: Layout, memory: &mut [T], work: K) -> K
     }
 }
 
-// Turns an empty board. A board that is turned twice is itself again, and a type says how often its board is turned, so that an
-// even number of turns but none is two, and an odd number one.
+// The fewest turns that are made for as many: a board that is turned twice is itself again, so that an even number but none is two,
+// and an odd number one.
+fn fewest(turns: usize) -> usize
+    ensures few { result ≤ 2 }
+    ensures parity { result % 2 ≡ turns % 2 }
+{
+    if turns <= 2 { turns } else { 2 - turns % 2 }
+}
+
+// Turns an empty board. A type says how often its board is turned.
 fn turned<T: Copy, B: Board<Cell = T> + Drop, K: Work<T>>(turns: usize, board: B, work: K) -> K::Out
     requires { B.Board.matrix board ≡ empty }
     ensures made { K.gives work empty (B.Board.limits board) result }
 {
-    if turns == 0 {
-        work.on(board)
-    } else if turns % 2 == 1 {
-        work.on(TurnedBoard::over(board))
-    } else {
-        work.on(TurnedBoard::over(TurnedBoard::over(board)))
+    match fewest(turns) {
+        0 => work.on(board),
+        1 => work.on(TurnedBoard::over(board)),
+        _ => work.on(TurnedBoard::over(TurnedBoard::over(board))),
     }
 }

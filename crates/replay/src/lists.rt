@@ -7,6 +7,7 @@ ghost use Rattle.replay.specs.Laws.{Law};
 use crate::call::{Answer, Call, State};
 use crate::steps::step;
 use boards::board::Board;
+use flat::calls::poke;
 use keeps::keep::Keep;
 use sheet::sheets::OpenSheet;
 
@@ -29,12 +30,14 @@ fn run<B: Board, K: Keep<Cell = B::Cell>>(
 ) -> State<B, K>
     ensures ran { (w : World B.Cell) → Holds B.Board K.Keep state w → w.memory ≡ memory.old → Ran B.Board K.Keep result memory.new answers.old answers.new lines.now (take (length answers.old) calls.now) w }
 {
-    // kept: an index beside the answers: tried by `zip` with `iter_mut`, after which a proof knows nothing of what was written. A
+    // kept: an index beside the calls: tried by `zip` with `iter_mut`, after which a proof knows nothing of what was written. By the
+    // calls, as a loop over the answers would pass the places that no call is left for, and there may be many more of them. A
     // loop of its own beside those of the exchange and of lists of board calls: each call moves the state, which no closure holds.
-    for (k, answer) in answers.iter_mut().enumerate() {
-        if let Some(call) = calls.get(k) {
-            (state, *answer) = step(state, *call, lines, memory);
-        }
+    let n = calls.len().min(answers.len());
+    for (k, call) in calls[..n].iter().enumerate() {
+        let (next, answer) = step(state, *call, lines, memory);
+        state = next;
+        poke(answers, k, answer);
     }
     state
 }

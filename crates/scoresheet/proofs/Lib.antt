@@ -1,4 +1,6 @@
 mod Listed
+mod Words
+mod Reading
 mod Gains
 mod Sounds
 mod Whole

@@ -1,7 +1,6 @@
 -- Lines that make a plan, one after another.
-use Rattle.std.proofs.Common.{◌≡◌, ℕ, ◌+◌, ◌<◌, ◌≤◌, Bool, List, [], ◌∷◌, ◌++◌, length, take, get_or, refl, sym, subst, take_all}
+use Rattle.std.proofs.Common.{◌≡◌, ℕ, ◌+◌, Bool, List, [], ◌∷◌, ◌++◌, refl, sym, subst}
 use Rattle.std.specs.List.{list_any}
-use Rattle.std.proofs.lemmas.List.{take_more}
 use Rattle.matrix.specs.Rules.{side_limit}
 use Rattle.listing.specs.declared.call.SheetKind.{SheetKind}
 use Rattle.listing.specs.declared.call.Fresh.{Fresh}
@@ -16,17 +15,12 @@ use Rattle.scoresheet.specs.Unrolls.{waits, unrolled}
 use Rattle.scoresheet.specs.Sheets.{NotesAll, Runs, RunText, SheetText, Unrolled}
 
 module _ {T : Type 0} (spells : List ℕ → T → Type 0) (kind : SheetKind) where
-  notes_append : (xs : List Line) (line : Line) (first old new : Supply T) (first_plan old_plan new_plan : Plan T) → NotesAll spells kind xs first old first_plan old_plan
+  -- one line more
+  pub notes_append : (xs : List Line) (line : Line) (first old new : Supply T) (first_plan old_plan new_plan : Plan T) → NotesAll spells kind xs first old first_plan old_plan
       → Notes spells kind line old new old_plan new_plan → NotesAll spells kind (xs ++ (line ∷ [])) first new first_plan new_plan
   notes_append [] line first old new first_plan old_plan new_plan h one =
       (new, new_plan, subst (λ s. Notes spells kind line s new first_plan new_plan) h.0 (subst (λ p. Notes spells kind line old new p new_plan) h.1 one), (refl, refl))
   notes_append (x ∷ xs) line first old new first_plan old_plan new_plan h one = (h.0, h.1, h.2, notes_append xs line h.0 old new h.1 old_plan new_plan h.3 one)
-
-  -- one line more
-  pub notes_more : (lines : List Line) (k : ℕ) (d : Line) (first old new : Supply T) (first_plan old_plan new_plan : Plan T) → k < length lines → NotesAll spells kind (take k lines) first old first_plan old_plan
-      → Notes spells kind (get_or lines k d) old new old_plan new_plan → NotesAll spells kind (take (k + 1) lines) first new first_plan new_plan
-  notes_more lines k d first old new first_plan old_plan new_plan l h one =
-      subst (λ xs. NotesAll spells kind xs first new first_plan new_plan) (sym (take_more lines k d l)) (notes_append (take k lines) (get_or lines k d) first old new first_plan old_plan new_plan h one)
 
 -- the plan unrolled by what was said
 pub unrolled_by : {T : Type 0} (plan : Plan T) (told said : List (Answer T)) (again : Plan T) → told ≡ said → again.items.items ≡ (unrolled plan.calls.items told plan.items.items).items
@@ -34,10 +28,10 @@ pub unrolled_by : {T : Type 0} (plan : Plan T) (told said : List (Answer T)) (ag
 unrolled_by plan told said again e items calls pool = subst (λ z. Unrolled plan z again) e (record { items = items; calls = calls; pool = pool })
 
 -- all lines are noted, and the plan has run
-pub sheet_text : {T : Type 0} (spells : List ℕ → T → Type 0) (spell : T → List ℕ) (fresh : Fresh) (lines : List Line) (k : ℕ) (none supply : Supply T) (no_plan plan : Plan T) (first : Played T) (text : List ℕ) (b : Bool) → length lines ≤ k
-    → none.starts.items ≡ [] → none.cells.items ≡ [] → no_plan.items.items ≡ [] → no_plan.calls.items ≡ [] → NotesAll spells fresh.kind (take k lines) none supply no_plan plan → plan.pool ≡ side_limit
+pub sheet_text : {T : Type 0} (spells : List ℕ → T → Type 0) (spell : T → List ℕ) (fresh : Fresh) (lines : List Line) (none supply : Supply T) (no_plan plan : Plan T) (first : Played T) (text : List ℕ) (b : Bool)
+    → none.starts.items ≡ [] → none.cells.items ≡ [] → no_plan.items.items ≡ [] → no_plan.calls.items ≡ [] → NotesAll spells fresh.kind lines none supply no_plan plan → plan.pool ≡ side_limit
     → Runs fresh supply plan first → list_any waits plan.items.items ≡ b → RunText b spell fresh supply plan first text → SheetText spells spell fresh lines text
-sheet_text spells spell fresh lines k none supply no_plan plan first text b l starts cells items calls notes pool run waiting shown = record {
+sheet_text spells spell fresh lines none supply no_plan plan first text b starts cells items calls notes pool run waiting shown = record {
   supply = supply;
   plan = plan;
   made = record {
@@ -47,7 +41,7 @@ sheet_text spells spell fresh lines k none supply no_plan plan first text b l st
     cells = cells;
     items = items;
     calls = calls;
-    notes = subst (λ xs. NotesAll spells fresh.kind xs none supply no_plan plan) (take_all k lines l) notes;
+    notes = notes;
     pool = pool;
   };
   first = first;

@@ -24,6 +24,10 @@ abbrev pub Begins : List Line → Type 0
 Begins [] = ⊤
 Begins (line ∷ lines) = (fresh : Fresh) × (line.call ≡ Ok (Call.New fresh))
 
--- a text whose lines are calls, or say nothing, and of which the first call makes a sheet
+-- lines that are calls, or say nothing, and of which the first call makes a sheet
+abbrev pub AnswerableLines : List (List ℕ) → Type 0
+AnswerableLines list = (ls : List Line) × AreLines 1 (map words list) ls × Sound ls × Begins ls
+
+-- a text of such lines
 abbrev pub Answerable : List ℕ → Type 0
-Answerable text = (ls : List Line) × AreLines 1 (map words (lines text)) ls × Sound ls × Begins ls
+Answerable text = AnswerableLines (lines text)

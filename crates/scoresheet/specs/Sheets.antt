@@ -1,6 +1,6 @@
 -- What is printed for the lines of a sheet, and for a list of sheets.
-use Rattle.std.specs.Prelude.{◌≡◌, ℕ, ◌+◌, Bool, true, false, cond, List, [], ◌∷◌, ◌++◌, Result, Ok, Err, string_bytes, map}
-use Rattle.std.specs.List.{list_any}
+use Rattle.std.specs.Prelude.{◌≡◌, ℕ, ◌+◌, ◌<◌, ◌≤◌, Bool, true, false, cond, List, [], ◌∷◌, ◌++◌, length, Option, Some, None, Result, Ok, Err, string_bytes, map}
+use Rattle.std.specs.List.{list_any, AllByRecursion}
 use Rattle.std.specs.Str.Lines.{lines}
 use Rattle.matrix.specs.Rules.{side_limit}
 use Rattle.cells.specs.declared.refusal.Refusal.{Refusal}
@@ -15,11 +15,14 @@ use Rattle.listing.specs.Spellings.{passage_word, penalty_word, Passes, Adds}
 use Rattle.replay.specs.declared.call.Answer.{Answer as Said}
 use Rattle.replay.specs.Tallies.{capped}
 use Rattle.scoresheet.specs.declared.lines.Line.{Line}
+use Rattle.scoresheet.specs.declared.lines.Stop.{Stop}
 use Rattle.scoresheet.specs.declared.output.Output.{Output}
 use Rattle.scoresheet.specs.declared.script.Plan.{Plan}
 use Rattle.scoresheet.specs.declared.script.Supply.{Supply}
 use Rattle.scoresheet.specs.declared.answers.Played.{Played}
-use Rattle.scoresheet.specs.Lists.{words, AreLines}
+use Rattle.scoresheet.specs.Lists.{words, AreLines, Between}
+use Rattle.scoresheet.specs.Outcomes.{Answered, Clean, Sound}
+use Rattle.scoresheet.specs.Plans.{AllAsked}
 use Rattle.scoresheet.specs.Asks.{Notes}
 use Rattle.scoresheet.specs.Plays.{PlaysPlan}
 use Rattle.scoresheet.specs.Unrolls.{waits, unrolled}
@@ -109,6 +112,47 @@ abbrev pub GroupsText : List (List Line) → List ℕ → Type 0
 GroupsText [] text = text ≡ []
 GroupsText (group ∷ groups) text = (own : List ℕ) × (more : List ℕ) × (text ≡ own ++ more) × GroupText group own × GroupsText groups more
 
--- what a list is answered: the text of its lines that say something, by their sheets
+-- what lines are answered: the text of those that say something, by their sheets
+abbrev pub LinesText : List (List ℕ) → List ℕ → Type 0
+LinesText list text = (ls : List Line) × AreLines 1 (map words list) ls × GroupsText (sheets ls) text
+
+-- what a list is answered
 abbrev pub ListText : List ℕ → List ℕ → Type 0
-ListText list text = (ls : List Line) × AreLines 1 (map words (lines list)) ls × GroupsText (sheets ls) text
+ListText list text = LinesText (lines list) text
+
+-- the line of that number, which makes that sheet
+abbrev pub making : ℕ → Fresh → Line
+making n fresh = record { number = n; call = Ok (Call.New fresh) }
+
+-- the line that stops reading, if one does: its number is how many lines are read
+abbrev pub stopper : ℕ → Option Fresh → List Line
+stopper n None = []
+stopper n (Some fresh) = making n fresh ∷ []
+
+-- reading goes on after the first n lines of a list over lines of which none makes a sheet, to the one that makes the next or to the end
+pub record UpTo (list : List (List ℕ)) (n : ℕ) (stop : Stop) (us : List Line) : Type 0 where
+  pub said : Between list n stop.lines (us ++ stopper stop.lines stop.fresh)
+  pub none : AllByRecursion (λ line. makes line.call ≡ false) us
+  pub end : stop.fresh ≡ None → stop.lines ≡ length list
+  pub further : (fresh : Fresh) → stop.fresh ≡ Some fresh → (n < stop.lines) × (stop.lines ≤ length list)
+
+-- lines that no sheet stands before are answered by errors
+pub record NoSheet (list : List (List ℕ)) (n : ℕ) (stop : Stop) (old new : Output) : Type 0 where
+  pub us : List Line
+  pub upto : UpTo list n stop us
+  pub text : string_bytes new.text ≡ string_bytes old.text ++ unsheeted_lines us
+  pub none : Clean new → Clean old × (us ≡ [])
+
+-- the lines of a sheet are noted in its plan and its supply
+pub record NotesUpTo {T : Type 0} (spells : List ℕ → T → Type 0) (kind : SheetKind) (list : List (List ℕ)) (n : ℕ) (stop : Stop) (supply new_supply : Supply T) (plan new_plan : Plan T) : Type 0 where
+  pub us : List Line
+  pub upto : UpTo list n stop us
+  pub notes : NotesAll spells kind us supply new_supply plan new_plan
+  pub asked : AllAsked new_plan.items.items → AllAsked plan.items.items × Sound us
+
+-- lines are answered by such a text
+pub record Told (so : List Line → List ℕ → Type 0) (list : List (List ℕ)) (n : ℕ) (stop : Stop) (old new : Output) : Type 0 where
+  pub us : List Line
+  pub upto : UpTo list n stop us
+  pub text : Prints (so us) old new
+  pub sound : Answered us old new

@@ -1,10 +1,10 @@
 // The lines of a list.
-ghost use Rattle.std.specs.Prelude.{◌≡◌, IfOk, map};
+ghost use Rattle.std.specs.Prelude.{◌≡◌, IfOk};
 ghost use Rattle.std.specs.Str.Lines.{lines};
 ghost use Rattle.listing.specs.Calls.{texts};
-ghost use Rattle.scoresheet.specs.Lists.{uncommented, words, AreLines};
+ghost use Rattle.scoresheet.specs.Lists.{parted, sheet_made, uncommented, words};
 
-use listing::call::Call;
+use listing::call::{Call, Fresh};
 use listing::wrong::Wrong;
 use std::alloc::{AllocError, Global};
 
@@ -15,23 +15,51 @@ pub struct Line<'a> {
     pub call: Result<Call<'a>, Wrong>,
 }
 
-// The words of each line, up to its comment. Spaces and tabs separate them.
-pub fn split<'a>(heap: Global, text: &'a str) -> Result<Vec<Vec<&'a str>>, AllocError>
-    ensures words { IfOk result (λ list. map (λ ws. texts ws.items) list.items ≡ map words (lines text.now)) }
-{
-    let mut lines = Vec::new(heap);
-    for line in text.lines() {
-        lines.push(split_line(heap, line)?)?;
-    }
-    Ok(lines)
+// Where reading stops: how many lines of the list are read, and the sheet that the last of them makes; it makes none only where no
+// line is left.
+#[derive(Clone, Copy)]
+pub struct Stop {
+    pub lines: usize,
+    pub fresh: Option<Fresh>,
 }
 
-// The words of one line.
-fn split_line<'a>(heap: Global, line: &'a str) -> Result<Vec<&'a str>, AllocError>
+// The sheet that a line makes, if it makes one.
+pub fn made(call: Result<Call<'_>, Wrong>) -> Option<Fresh>
+    ensures answer { result ≡ sheet_made call.entry }
+{
+    match call {
+        Ok(Call::New(fresh)) => Some(fresh),
+        _ => None,
+    }
+}
+
+// The lines of a list.
+pub fn split<'a>(heap: Global, text: &'a str) -> Result<Vec<&'a str>, AllocError>
+    ensures lines { IfOk result (λ list. texts list.items ≡ lines text.now) }
+{
+    text.lines().collect(heap)
+}
+
+// The words of a line, up to its comment. Spaces and tabs separate them.
+// kept: two ways, since few lines have a tab, and a look for one in each word takes as long as all else that reads it
+pub fn split_line<'a>(heap: Global, line: &'a str) -> Result<Vec<&'a str>, AllocError>
     ensures words { IfOk result (λ ws. texts ws.items ≡ words line.now) }
 {
-    without_comment(line)
-        .split(' ')
+    let text = without_comment(line);
+    if text.contains('\t') {
+        split_tabbed(heap, text)
+    } else {
+        text.split(' ')
+            .filter(|word| !word.is_empty())
+            .collect(heap)
+    }
+}
+
+// The words of a text that has tabs.
+fn split_tabbed<'a>(heap: Global, text: &'a str) -> Result<Vec<&'a str>, AllocError>
+    ensures words { IfOk result (λ ws. texts ws.items ≡ parted text.now) }
+{
+    text.split(' ')
         .flat_map(|part| part.split('\t'))
         .filter(|word| !word.is_empty())
         .collect(heap)
@@ -44,20 +72,4 @@ fn without_comment(line: &str) -> &str
         Some((text, _)) => text,
         None => line,
     }
-}
-
-// The lines that have a word.
-pub fn read<'a, 't>(heap: Global, list: &'a [Vec<&'t str>]) -> Result<Vec<Line<'a>>, AllocError>
-    ensures lines { IfOk result (λ ls. AreLines 1 (map (λ ws. texts ws.items) list.now) ls.items) }
-{
-    let mut lines = Vec::new(heap);
-    for (at, words) in list.iter().enumerate() {
-        if let Some(call) = Call::read(words.as_slice()).transpose() {
-            lines.push(Line {
-                number: at + 1,
-                call,
-            })?;
-        }
-    }
-    Ok(lines)
 }

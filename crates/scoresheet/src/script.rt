@@ -9,10 +9,11 @@ ghost use Rattle.matrix.specs.Rules.{side_limit};
 ghost use Rattle.replay.specs.Tallies.{capped};
 ghost use Rattle.scoresheet.specs.Plans.{AllAsked};
 ghost use Rattle.scoresheet.specs.Asks.{Adds, Becomes, Notes, Supplies, Unasked, coming, room_lent, moved_to, line_between};
+ghost use Rattle.scoresheet.specs.Sheets.{NotesUpTo};
 ghost use Rattle.scoresheet.specs.Wrongs.{begun_by, TooLate, Misspelt, Mistaken, IfWrong};
 ghost use Rattle.scoresheet.specs.Unrolls.{waits, cells_asked, asked_again, pool_after, unrolled};
 
-use crate::lines::Line;
+use crate::lines::{Line, Stop, made, split_line};
 use crate::spelt::read_cells;
 use flat::segment::Segment;
 use listing::call::{Call as Asked, SheetKind};
@@ -103,6 +104,39 @@ impl<T: Written> Plan<T> {
             calls: Vec::new(heap),
             pool,
         }
+    }
+
+    // The lines of a sheet that is made, after the first `from` of a list, up to the one that makes the next. The words of a line are
+    // let go once it is read.
+    // kept: the place of a line is its number in the list, so that the lines before are not handed on and are counted all the same
+    pub fn read_all(
+        &mut self,
+        heap: Global,
+        supply: &mut Supply<T>,
+        kind: SheetKind,
+        lines: &[&str],
+        from: usize,
+    ) -> Result<Stop, AllocError>
+        ensures read { IfOk result (λ stop. NotesUpTo T.Written.spells kind (texts lines.now) from stop supply.old supply.new self.old self.new) }
+        ensures pool { self.new.pool ≡ self.old.pool }
+    {
+        for at in from..lines.len() {
+            let words = split_line(heap, lines[at])?;
+            if let Some(call) = Asked::read(words.as_slice()).transpose() {
+                let number = at + 1;
+                if let Some(fresh) = made(call) {
+                    return Ok(Stop {
+                        lines: number,
+                        fresh: Some(fresh),
+                    });
+                }
+                self.read(supply, kind, Line { number, call })?;
+            }
+        }
+        Ok(Stop {
+            lines: lines.len(),
+            fresh: None,
+        })
     }
 
     // One more line of a sheet.

@@ -4,6 +4,7 @@ ghost use Rattle.matrix.specs.Matrix.{over};
 ghost use Rattle.replay.specs.Laws.{exchange};
 
 use crate::call::Call;
+use flat::calls::poke;
 
 impl<T: Copy> Call<T> {
     // kept: rows and columns change places in its numbers too, which no derive says.
@@ -32,11 +33,11 @@ impl<T: Copy> Call<T> {
 pub(crate) fn exchange_all<T: Copy>(calls: &[Call<T>], exchanged: &mut [Call<T>])
     ensures effect { exchanged.new ≡ over (map exchange (take (length exchanged.old) calls.now)) exchanged.old }
 {
-    // kept: an index beside the places: tried by `zip` with `iter_mut`, after which a proof knows nothing of what was written.
+    // kept: an index beside the calls: tried by `zip` with `iter_mut`, after which a proof knows nothing of what was written. By the
+    // calls, as a loop over the places would pass those that no call is left for.
     // A list is run by a loop like this, in which each call moves the sheet: a closure could not hold it from call to call.
-    for (k, place) in exchanged.iter_mut().enumerate() {
-        if let Some(call) = calls.get(k) {
-            *place = call.exchanged();
-        }
+    let n = calls.len().min(exchanged.len());
+    for (k, call) in calls[..n].iter().enumerate() {
+        poke(exchanged, k, call.exchanged());
     }
 }

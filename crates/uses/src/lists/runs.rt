@@ -6,6 +6,7 @@ ghost use Rattle.uses.specs.Lists.{State, reply, next, after, replies, Alike};
 
 use crate::lists::{Answer, Call};
 use boards::board::Board;
+use flat::calls::poke;
 
 // Makes one call.
 fn one<B: Board>(
@@ -53,13 +54,14 @@ pub fn run<B: Board>(
     ensures effect { record { matrix = B.matrix b.new; memory = memory.new } ≡ after (B.limits b.old) lines.now (take (length answers.old) calls.now) (record { matrix = B.matrix b.old; memory = memory.old }) }
     ensures limits { B.limits b.new ≡ B.limits b.old }
 {
-    // kept: an index beside the answers: tried by `zip` with `iter_mut`, after which a proof knows nothing of what was written.
+    // kept: an index beside the calls: tried by `zip` with `iter_mut`, after which a proof knows nothing of what was written. By the
+    // calls, as a loop over the answers would pass the places that no call is left for, and there may be many more of them.
     // Lists of a sheet are run by a loop like this. One function for both would be public and require of its closure that it can
     // be called, as no public function here does; and a trait of one call would need a struct of board, lines and memory for it.
-    for (k, answer) in answers.iter_mut().enumerate() {
-        if let Some(call) = calls.get(k) {
-            *answer = one(b, *call, lines, memory);
-        }
+    let n = calls.len().min(answers.len());
+    for (k, call) in calls[..n].iter().enumerate() {
+        let answer = one(b, *call, lines, memory);
+        poke(answers, k, answer);
     }
 }
 

@@ -1,11 +1,13 @@
-use Rattle.std.specs.Prelude.{string_bytes}
-use Rattle.scoresheet.proofs.Sounds.{Before}
-use Rattle.scoresheet.proofs.Grouped.{SoFar}
+use Rattle.std.proofs.Common.{◌+◌, ◌-◌, length}
+use Rattle.listing.specs.Calls.{texts}
+use Rattle.scoresheet.specs.Sheets.{stopper}
+use Rattle.scoresheet.proofs.Sounds.{Answering}
 use Rattle.scoresheet.proofs.sheets.answer.Given as goal
 
--- the lines of the groups so far are answered
-abbrev pub invariant-loop-sheet : goal.invariant-loop-sheet
-invariant-loop-sheet l = record {
-  before : Before l.sheet-iterator.rest.now l.out l.lines;
-  text : SoFar l.lines l.sheet-iterator.rest.now (string_bytes l.out.text);
-}
+-- the sheets so far are answered
+abbrev pub invariant-loop-stop : goal.invariant-loop-stop
+invariant-loop-stop l = Answering (texts l.lines) l.stop l.out
+
+-- each sheet reads on
+abbrev pub decreases-loop-stop : goal.decreases-loop-stop
+decreases-loop-stop l = length (texts l.lines) - l.stop.lines + length (stopper l.stop.lines l.stop.fresh)
