@@ -1,39 +1,113 @@
--- The words of a text that has no tab.
-use Rattle.std.proofs.Common.{◌≡◌, ℕ, ◌<◌, List, [], ◌∷◌, ◌++◌, length, get_or, Bool, true, false, ◌==◌, flat_map, refl, sym, ap, ◌∙◌, subst}
-use Rattle.std.specs.List.{AllByRecursion, slice_split, onto_first}
-use Rattle.std.proofs.lemmas.Bool.{eqb-true}
-use Rattle.std.proofs.lemmas.List.{get_or_default}
-use Rattle.std.proofs.lemmas.List.Elements.{All-from_recursion, recursion_from_All}
-use Rattle.std.proofs.lemmas.List.Splits.{slice_split_none, slice_split-cons_yes, slice_split-cons_no}
+-- The words of a text, one after another.
+use Rattle.std.proofs.Common.{◌≡◌, ℕ, suc, ◌+◌, ◌<◌, ◌≤◌, List, [], ◌∷◌, ◌++◌, length, drop, get_or, Bool, true, false, cond, ◌||◌, not, ◌==◌, filter, flat_map, refl, sym, ap, ◌∙◌, subst, true≢false, arith}
+use Rattle.std.specs.List.{All, slice_split, slice_range, onto_first}
+use Rattle.std.proofs.Math.Seq.{drop-cons}
+use Rattle.std.proofs.lemmas.Bool.{cases_lt, eqb-true}
+use Rattle.std.proofs.lemmas.Grind.{common_steps}
+use Rattle.std.proofs.lemmas.List.{drop_all}
+use Rattle.std.proofs.lemmas.List.Folds.{drop_split}
+use Rattle.std.proofs.lemmas.List.Splits.{slice_split_none, slice_split_at, slice_split-cons_yes, slice_split-cons_no, length-slice_split}
+use Rattle.listing.specs.Calls.{texts}
+use Rattle.scoresheet.specs.Lists.{gap, parted}
+use borrow.Author.Tests.{ne_eqb}
+use denote.Ref.{Bor}
+use mathlib.Core.Logic.{⊎_elim}
 
-abbrev pub NoTab : List ℕ → Type 0
-NoTab bs = AllByRecursion (λ b. (b == 9) ≡ false) bs
+abbrev spaced : List ℕ → List (List ℕ)
+spaced text = slice_split (λ b. b == 32) text
 
--- a test that a tab would pass does not hold
-pub no_tab : (bs : List ℕ) (r : Bool) → ((k : ℕ) → k < length bs → get_or bs k 0 ≡ 9 → r ≡ true) → r ≡ false → NoTab bs
-no_tab bs r found none = recursion_from_All (λ b. (b == 9) ≡ false) bs (λ k d l. go k d l (get_or bs k d == 9) refl)
+abbrev tabbed : List ℕ → List (List ℕ)
+tabbed part = slice_split (λ b. b == 9) part
+
+-- a byte that is no tab goes before the first part, whether each part is parted at its tabs before or after
+onto : (x : ℕ) (ps : List (List ℕ)) → 0 < length ps → (x == 9) ≡ false → flat_map tabbed (onto_first x ps) ≡ onto_first x (flat_map tabbed ps)
+onto x [] l e = absurd (omega arith)
+onto x (p ∷ ps) l e = ap (λ z. z ++ flat_map tabbed ps) (slice_split-cons_no (λ b. b == 9) x p e) ∙ go (tabbed p) (omega (arith, length-slice_split (λ b. b == 9) p))
   where
-    go : (k d : ℕ) → k < length bs → (b : Bool) → (get_or bs k d == 9) ≡ b → (get_or bs k d == 9) ≡ false
-    go k d l true e = e ∙ sym (found k l (get_or_default bs k 0 d l ∙ eqb-true (get_or bs k d) 9 e)) ∙ none
-    go k d l false e = e
+    go : (qs : List (List ℕ)) → 0 < length qs → onto_first x qs ++ flat_map tabbed ps ≡ onto_first x (qs ++ flat_map tabbed ps)
+    go [] l = absurd (omega arith)
+    go (q ∷ qs) l = refl
 
-onto : (x : ℕ) (parts : List (List ℕ)) → (x == 9) ≡ false → AllByRecursion NoTab parts → AllByRecursion NoTab (onto_first x parts)
-onto x [] e h = ((e, tt), tt)
-onto x (part ∷ parts) e h = ((e, h.0), h.1)
+-- a tab before the first part makes an empty one of its own
+tab : (x : ℕ) (ps : List (List ℕ)) → 0 < length ps → (x == 9) ≡ true → flat_map tabbed (onto_first x ps) ≡ [] ∷ flat_map tabbed ps
+tab x [] l e = absurd (omega arith)
+tab x (p ∷ ps) l e = ap (λ z. z ++ flat_map tabbed ps) (slice_split-cons_yes (λ b. b == 9) x p e)
 
-parts : (xs : List ℕ) → NoTab xs → AllByRecursion NoTab (slice_split (λ b. b == 32) xs)
-parts [] h = (tt, tt)
-parts (x ∷ xs) h = go (x == 32) refl (parts xs h.1)
+-- parted at spaces, and each part at tabs, a text is parted at both
+both : (xs : List ℕ) → flat_map tabbed (spaced xs) ≡ slice_split gap xs
+both [] = refl
+both (x ∷ xs) = go (x == 32) (x == 9) refl refl (both xs)
   where
-    go : (b : Bool) → (x == 32) ≡ b → AllByRecursion NoTab (slice_split (λ b. b == 32) xs) → AllByRecursion NoTab (slice_split (λ b. b == 32) (x ∷ xs))
-    go true e more = subst (AllByRecursion NoTab) (sym (slice_split-cons_yes (λ b. b == 32) x xs e)) (tt, more)
-    go false e more = subst (AllByRecursion NoTab) (sym (slice_split-cons_no (λ b. b == 32) x xs e)) (onto x (slice_split (λ b. b == 32) xs) h.0 more)
+    some : 0 < length (spaced xs)
+    some = omega (arith, length-slice_split (λ b. b == 32) xs)
 
-whole : (ps : List (List ℕ)) → AllByRecursion NoTab ps → flat_map (λ part. slice_split (λ b. b == 9) part) ps ≡ ps
-whole [] h = refl
-whole (p ∷ ps) h =
-    ap (λ z. z ++ flat_map (λ part. slice_split (λ b. b == 9) part) ps) (slice_split_none (λ b. b == 9) p (All-from_recursion (λ b. (b == 9) ≡ false) p h.0)) ∙ ap (λ zs. p ∷ zs) (whole ps h.1)
+    go : (s t : Bool) → (x == 32) ≡ s → (x == 9) ≡ t → flat_map tabbed (spaced xs) ≡ slice_split gap xs → flat_map tabbed (spaced (x ∷ xs)) ≡ slice_split gap (x ∷ xs)
+    go true t e f more = ap (flat_map tabbed) (slice_split-cons_yes (λ b. b == 32) x xs e) ∙ ap (λ z. [] ∷ z) more ∙ sym (slice_split-cons_yes gap x xs (ap (λ b. b || (x == 9)) e))
+    go false true e f more =
+        ap (flat_map tabbed) (slice_split-cons_no (λ b. b == 32) x xs e) ∙ tab x (spaced xs) some f ∙ ap (λ z. [] ∷ z) more ∙ sym (slice_split-cons_yes gap x xs (ap (λ b. b || (x == 9)) e ∙ f))
+    go false false e f more =
+        ap (flat_map tabbed) (slice_split-cons_no (λ b. b == 32) x xs e) ∙ onto x (spaced xs) some f ∙ ap (onto_first x) more ∙ sym (slice_split-cons_no gap x xs (ap (λ b. b || (x == 9)) e ∙ f))
 
--- spaces alone part it
-pub spaced : (xs : List ℕ) → NoTab xs → flat_map (λ part. slice_split (λ b. b == 9) part) (slice_split (λ b. b == 32) xs) ≡ slice_split (λ b. b == 32) xs
-spaced xs h = whole (slice_split (λ b. b == 32) xs) (parts xs h)
+-- a gap is a character of one byte
+pub gap_low : (b : ℕ) → gap b ≡ true → b < 128
+gap_low b e = go (b == 32) (b == 9) refl refl
+  where
+    go : (s t : Bool) → (b == 32) ≡ s → (b == 9) ≡ t → b < 128
+    go true t f g = let n : b ≡ 32 = eqb-true b 32 f in omega arith
+    go false true f g = let n : b ≡ 9 = eqb-true b 9 g in omega arith
+    go false false f g = absurd (true≢false (sym e ∙ ap (λ c. c || (b == 9)) f ∙ g))
+
+-- from one place up to another no byte is a gap
+abbrev pub NoGap : List ℕ → ℕ → ℕ → Type 0
+NoGap bs from at = (k : ℕ) → from ≤ k → k < at → gap (get_or bs k 0) ≡ false
+
+-- nor is the next
+pub no_gap_more : (bs : List ℕ) (from at : ℕ) → NoGap bs from at → gap (get_or bs at 0) ≡ false → NoGap bs from (at + 1)
+no_gap_more bs from at h e k l m = ⊎_elim (λ n. h k l n) (λ n. let same : at ≡ k = omega arith in subst (λ j. gap (get_or bs j 0) ≡ false) same e) (cases_lt k at)
+
+in_part : (bs : List ℕ) (from at : ℕ) → from ≤ at → at ≤ length bs → NoGap bs from at → All (λ b. gap b ≡ false) (slice_range bs from at)
+in_part bs from at l m h k d b = let at_k = h (from + k) (omega arith) (grind (arith, common_steps)) in grind (arith, common_steps)
+
+next : (bs : List ℕ) (at : ℕ) → at < length bs → drop at bs ≡ get_or bs at 0 ∷ drop (at + 1) bs
+next bs at m = let e : suc at ≡ at + 1 = omega arith in drop-cons bs at 0 m ∙ ap (λ n. get_or bs at 0 ∷ drop n bs) e
+
+-- the words among parts
+abbrev pub wordy : List (List ℕ) → List (List ℕ)
+wordy parts = filter (λ word. not (length word == 0)) parts
+
+-- the words of a text from a place on
+abbrev pub left : List ℕ → ℕ → List (List ℕ)
+left bs from = wordy (slice_split gap (drop from bs))
+
+some_word : (w : List ℕ) (ps : List (List ℕ)) → 0 < length w → wordy (w ∷ ps) ≡ w ∷ wordy ps
+some_word [] ps l = absurd (omega arith)
+some_word (b ∷ bs) ps l = ap (λ e. cond (not e) ((b ∷ bs) ∷ wordy ps) (wordy ps)) (ne_eqb (length (b ∷ bs)) 0 (λ z. omega arith))
+
+-- a gap ends a word
+pub word_at : (bs : List ℕ) (from at : ℕ) → from < at → at < length bs → NoGap bs from at → gap (get_or bs at 0) ≡ true → left bs from ≡ slice_range bs from at ∷ left bs (at + 1)
+word_at bs from at l m h e =
+    ap (λ xs. wordy (slice_split gap xs)) (drop_split bs from at (omega arith) ∙ ap (λ z. slice_range bs from at ++ z) (next bs at m))
+    ∙ ap wordy (slice_split_at gap (slice_range bs from at) (get_or bs at 0) (drop (at + 1) bs) (in_part bs from at (omega arith) (omega arith) h) e)
+    ∙ some_word (slice_range bs from at) (slice_split gap (drop (at + 1) bs)) (grind (arith, common_steps))
+
+-- or, where none has begun, nothing
+pub none_at : (bs : List ℕ) (at : ℕ) → at < length bs → gap (get_or bs at 0) ≡ true → left bs at ≡ left bs (at + 1)
+none_at bs at m e = ap (λ xs. wordy (slice_split gap xs)) (next bs at m) ∙ ap wordy (slice_split-cons_yes gap (get_or bs at 0) (drop (at + 1) bs) e)
+
+-- and so does the end of the text
+pub word_end : (bs : List ℕ) (from : ℕ) → from < length bs → NoGap bs from (length bs) → left bs from ≡ drop from bs ∷ []
+word_end bs from l h =
+    ap wordy (slice_split_none gap (drop from bs) (λ k d b. let at_k = h (from + k) (omega arith) (grind (arith, common_steps)) in grind (arith, common_steps)))
+    ∙ some_word (drop from bs) [] (grind (arith, common_steps))
+
+pub none_end : (bs : List ℕ) (from : ℕ) → length bs ≤ from → left bs from ≡ []
+none_end bs from l = ap (λ xs. wordy (slice_split gap xs)) (drop_all from bs l)
+
+-- the words of a text are those from its front on
+pub whole : (bs : List ℕ) → left bs 0 ≡ parted bs
+whole bs = ap wordy (sym (both bs))
+
+-- the word that was taken last is the first that was left
+pub pushed : (ws : List (Bor (List ℕ))) (w : Bor (List ℕ)) (rest : List (List ℕ)) → texts (ws ++ w ∷ []) ++ rest ≡ texts ws ++ w.now ∷ rest
+pushed [] w rest = refl
+pushed (v ∷ ws) w rest = ap (λ z. v.now ∷ z) (pushed ws w rest)

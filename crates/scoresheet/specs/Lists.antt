@@ -1,5 +1,5 @@
 -- The words of a list's lines, and what they say.
-use Rattle.std.specs.Prelude.{◌≡◌, ℕ, ◌+◌, List, [], ◌∷◌, ◌==◌, ◌++◌, not, length, map, take, filter, flat_map, Option, Result, Some, None, Ok, Err}
+use Rattle.std.specs.Prelude.{◌≡◌, ℕ, ◌+◌, List, [], ◌∷◌, ◌==◌, ◌++◌, ◌||◌, Bool, not, length, map, take, filter, flat_map, Option, Result, Some, None, Ok, Err}
 use Rattle.std.specs.List.{before_first, slice_split}
 use Rattle.listing.specs.declared.call.Call.{Call}
 use Rattle.listing.specs.declared.call.Fresh.{Fresh}
@@ -10,6 +10,10 @@ use Rattle.scoresheet.specs.declared.lines.Line.{Line}
 -- the text of a line up to its comment
 abbrev pub uncommented : List ℕ → List ℕ
 uncommented line = before_first (λ b. b == 35) line
+
+-- a space or a tab
+abbrev pub gap : ℕ → Bool
+gap b = (b == 32) || (b == 9)
 
 -- the words of a text: spaces and tabs separate them, and an empty part is none
 abbrev pub parted : List ℕ → List (List ℕ)

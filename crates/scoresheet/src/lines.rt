@@ -2,7 +2,7 @@
 ghost use Rattle.std.specs.Prelude.{◌≡◌, IfOk};
 ghost use Rattle.std.specs.Str.Lines.{lines};
 ghost use Rattle.listing.specs.Calls.{texts};
-ghost use Rattle.scoresheet.specs.Lists.{parted, sheet_made, uncommented, words};
+ghost use Rattle.scoresheet.specs.Lists.{gap, sheet_made, uncommented, words};
 
 use listing::call::{Call, Fresh};
 use listing::wrong::Wrong;
@@ -41,28 +41,34 @@ pub fn split<'a>(heap: Global, text: &'a str) -> Result<Vec<&'a str>, AllocError
 }
 
 // The words of a line, up to its comment. Spaces and tabs separate them.
-// kept: two ways, since few lines have a tab, and a look for one in each word takes as long as all else that reads it
+// kept: a pass over the bytes that remembers where a word begins, since parting at spaces and then each part at tabs takes 1.6 to 3.6
+// times the instructions on words as short as cells
 pub fn split_line<'a>(heap: Global, line: &'a str) -> Result<Vec<&'a str>, AllocError>
     ensures words { IfOk result (λ ws. texts ws.items ≡ words line.now) }
 {
     let text = without_comment(line);
-    if text.contains('\t') {
-        split_tabbed(heap, text)
-    } else {
-        text.split(' ')
-            .filter(|word| !word.is_empty())
-            .collect(heap)
+    let bytes = text.as_bytes();
+    let mut words = Vec::new(heap);
+    let mut from = 0;
+    for at in 0..bytes.len() {
+        if is_gap(bytes[at]) {
+            if from < at {
+                words.push(&text[from..at])?;
+            }
+            from = at + 1;
+        }
     }
+    if from < text.len() {
+        words.push(&text[from..])?;
+    }
+    Ok(words)
 }
 
-// The words of a text that has tabs.
-fn split_tabbed<'a>(heap: Global, text: &'a str) -> Result<Vec<&'a str>, AllocError>
-    ensures words { IfOk result (λ ws. texts ws.items ≡ parted text.now) }
+// A space or a tab.
+fn is_gap(byte: u8) -> bool
+    ensures answer { result ≡ gap byte }
 {
-    text.split(' ')
-        .flat_map(|part| part.split('\t'))
-        .filter(|word| !word.is_empty())
-        .collect(heap)
+    byte == b' ' || byte == b'\t'
 }
 
 fn without_comment(line: &str) -> &str
